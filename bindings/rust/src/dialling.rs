@@ -95,6 +95,7 @@ pub(crate) fn push_text(out: &mut String, text: &str) {
 
 /// What is known of a number as a short number of any region of its calling code.
 #[derive(Clone, Copy, Debug, PartialEq, Eq, Hash)]
+#[non_exhaustive]
 pub struct FactsAnywhere {
     /// Whether the count of its digits is possible in some region.
     pub is_possible: bool,

@@ -9,6 +9,7 @@ use std::ops::Range;
 
 /// Which pieces of a text are found.
 #[derive(Clone, Copy, Debug, PartialEq, Eq, Hash, PartialOrd, Ord)]
+#[non_exhaustive]
 pub enum Leniency {
     /// Those that are parsed as a number with a possible count of digits.
     Possible,
@@ -18,6 +19,7 @@ pub enum Leniency {
 
 /// A number in a text.
 #[derive(Clone, Debug, PartialEq, Eq, Hash)]
+#[non_exhaustive]
 pub struct Found {
     /// Where it stands, in bytes of the text.
     pub place: Range<usize>,

@@ -33,6 +33,7 @@ const MATCHES: [NumberMatch; 5] = [
 
 /// What is made of a text by [`normalize`].
 #[derive(Clone, Copy, Debug, PartialEq, Eq, Hash, PartialOrd, Ord)]
+#[non_exhaustive]
 pub enum Form {
     /// Each letter is turned to the digit of its key; all else stays.
     Keys,
@@ -44,6 +45,7 @@ pub enum Form {
 
 /// What is known of a region.
 #[derive(Clone, Copy, Debug, PartialEq, Eq, Hash)]
+#[non_exhaustive]
 pub struct RegionFacts {
     /// Its calling code, as 64 for New Zealand.
     pub code: u16,
@@ -55,6 +57,7 @@ pub struct RegionFacts {
 
 /// What is known of a number, its digits being those of the national number with its leading zeros.
 #[derive(Clone, Copy, Debug, PartialEq, Eq, Hash)]
+#[non_exhaustive]
 pub struct NumberFacts {
     /// How many of its digits are its area's code; 0 where it has none.
     pub area_length: usize,

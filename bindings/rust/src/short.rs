@@ -20,6 +20,7 @@ pub(crate) const COSTS: [Cost; 4] = [Cost::TollFree, Cost::StandardRate, Cost::P
 
 /// What is known of a text as a short number of a region.
 #[derive(Clone, Copy, Debug, PartialEq, Eq, Hash)]
+#[non_exhaustive]
 pub struct ShortFacts {
     /// Whether the count of its digits is possible.
     pub is_possible: bool,

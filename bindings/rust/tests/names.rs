@@ -178,6 +178,12 @@ fn what_is_no_database_is_told() {
         (r#"[{"id":"NZ","general":{"national_number":"1"}}]"#, r#"metadata: missing value: "countryCode""#),
         (r#"[{"id":"NZ","country_code":64,"general":{}}]"#, r#"descriptor: missing value: "national_number""#),
         (r#"[{"id":"NZ","country_code":64,"general":{"national_number":"("}}]"#, "a text is no pattern"),
+        ("<a><b></a>", r#"mismatched tag: "a""#),
+        ("</a>", r#"mismatched tag: "a""#),
+        ("<a><b>", "unexpected end of file"),
+        ("<!-- <a/>", "unexpected end of file"),
+        ("<a b=1/>", "malformed XML: a tag has what is no attribute"),
+        ("<a>&b;</a>", "malformed XML: an unknown reference"),
         (r#"[{"id":"NZ","country_code":64,"general":{"national_number":"1"},"formats":[{"pattern":"1"}]}]"#, r#"format: missing value: "format""#),
     ] {
         let refused = metadata::Database::parse(text).unwrap_err().to_string();
@@ -201,4 +207,61 @@ fn national_numbers_are_read_and_made() {
     assert!(Validation::IsPossible.is_possible() && Validation::IsPossibleLocalOnly.is_possible());
     assert!(Validation::InvalidCountryCode.is_invalid() && !Validation::InvalidCountryCode.is_invalid_length());
     assert!(Validation::TooShort.is_invalid_length() && !Validation::TooLong.is_possible());
+}
+
+/// Texts of XML that are a territory's, and what is said of each.
+const XML: [(&str, &str); 6] = [
+    (r#"id="NZ" countryCode="64" color="1">"#, r#"territory: unhandled attribute: "color"="1""#),
+    (r#"id="NZ" countryCode="x">"#, "malformed integer in XML: invalid digit found in string"),
+    (r#"id="NZ" mainCountryForCode="yes">"#, "malformed truth value in XML: provided string was not `true` or `false`"),
+    (r#"id="NZ"><color/>"#, r#"territory: unhandled element: "color""#),
+    (r#"id="NZ"><mobile><color/></mobile>"#, r#"descriptor: unhandled element: "color""#),
+    (r#"id="NZ" countryCode="64">"#, r#"metadata: missing value: "generalDesc""#),
+];
+
+#[test]
+fn metadata_are_read_from_xml() {
+    let around = |territory: &str| {
+        format!(
+            "<?xml version='1.0'?>\n<!DOCTYPE phoneNumberMetadata [ <!ELEMENT phoneNumberMetadata (territories)> ]>\n\
+             <phoneNumberMetadata>\n<territories>\n<!-- one -->\n<territory {territory}</territory>\n</territories>\n</phoneNumberMetadata>\n"
+        )
+    };
+    for (territory, words) in XML {
+        assert_eq!(metadata::Database::parse(around(territory)).unwrap_err().to_string(), words, "{territory}");
+    }
+    let own = around(
+        r#"id="NZ" countryCode="64" nationalPrefix="0" nationalPrefixFormattingRule="$NP$FG"
+            carrierCodeFormattingRule='$NP $CC $FG' mobileNumberPortableRegion="true">
+            <references><sourceUrl>http://example.org/?a=1&amp;b=2</sourceUrl></references>
+            <availableFormats>
+                <numberFormat pattern="(\d)(\d{3})(\d{4})">
+                    <leadingDigits>[2-9]</leadingDigits><format>$1-$2 $3</format><intlFormat>$1 $2 $3</intlFormat>
+                </numberFormat>
+                <numberFormat pattern="(\d)(\d+)" nationalPrefixFormattingRule="($NP$FG)">
+                    <leadingDigits>1</leadingDigits><format>$1 $2</format><intlFormat>NA</intlFormat>
+                </numberFormat>
+            </availableFormats>
+            <generalDesc>
+                <nationalNumberPattern>
+                    [289]\d{7,9}|
+                    [3-79]\d{7}
+                </nationalNumberPattern>
+            </generalDesc>
+            <fixedLine>
+                <possibleLengths national="8,[10-12]" localOnly="7"/>
+                <exampleNumber>32345678</exampleNumber>
+                <nationalNumberPattern>3[2-79]\d{6}</nationalNumberPattern>
+            </fixedLine>"#,
+    );
+    let own = metadata::Database::parse(own).unwrap();
+    let it = own.by_id("NZ").unwrap();
+    assert_eq!((it.country_code(), it.formats().len(), it.international_formats().len()), (64, 2, 1));
+    assert_eq!((it.formats()[1].national_prefix(), it.formats()[0].domestic_carrier()), (Some("($NP$FG)"), Some("$NP $CC $FG")));
+    let fixed = it.descriptors().fixed_line().unwrap();
+    assert_eq!((fixed.possible_length(), fixed.possible_local_length()), (&[8, 10, 11, 12][..], &[7][..]));
+    let number = phonenumber::parse_with(&own, None, "+64 33316005").unwrap();
+    assert_eq!((number.number_type(&own), number.is_valid_with(&own)), (Type::FixedLine, true));
+    let printed = [Mode::National, Mode::International].map(|mode| number.format_with(&own).mode(mode).to_string());
+    assert_eq!(printed, ["03-331 6005", "+64 3 331 6005"]);
 }

@@ -2,6 +2,7 @@
 use crate::Error;
 use std::fmt;
 use std::num::ParseIntError;
+use std::str::ParseBoolError;
 
 /// Why a text is no number.
 #[derive(Clone, Debug, PartialEq, Eq)]
@@ -75,17 +76,17 @@ impl std::error::Error for ParseError {
 /// Why records are no database.
 #[derive(Clone, Debug, PartialEq, Eq)]
 pub enum MetadataError {
-    /// An XML text ends too soon: not given for JSON.
+    /// An XML text ends too soon.
     UnexpectedEof,
-    /// An XML element isn't closed: not given for JSON.
+    /// An XML element ends that wasn't the last one to begin.
     MismatchedTag(String),
     /// A record lacks a value that it must have.
     MissingValue { phase: String, name: String },
-    /// A record has a member that it may not have.
+    /// A record has a member, or an XML element an element, that it may not have.
     UnhandledElement { phase: String, name: String },
-    /// An XML element has an attribute that it may not have: not given for JSON.
+    /// An XML element has an attribute that it may not have.
     UnhandledAttribute { phase: String, name: String, value: String },
-    /// An XML text has something else: not given for JSON.
+    /// An XML text has something else: this crate never says so.
     UnhandledEvent { phase: String, event: String },
 }
 
@@ -112,7 +113,13 @@ impl std::error::Error for MetadataError {}
 pub enum LoadError {
     /// What is wrong with a record.
     Metadata(MetadataError),
-    /// The library refuses the text: it is no JSON, has a value of the wrong kind, or a text that is no pattern.
+    /// The text is no XML.
+    Xml(String),
+    /// A text of XML that is to be a number isn't.
+    Integer(ParseIntError),
+    /// A text of XML that is to be `true` or `false` isn't.
+    Bool(ParseBoolError),
+    /// The text is no JSON, has a value of the wrong kind, or a text that is no pattern.
     Database(Error),
     /// The file can't be read.
     Io(std::io::Error),
@@ -122,6 +129,9 @@ impl fmt::Display for LoadError {
     fn fmt(&self, f: &mut fmt::Formatter<'_>) -> fmt::Result {
         match self {
             LoadError::Metadata(error) => error.fmt(f),
+            LoadError::Xml(what) => write!(f, "malformed XML: {what}"),
+            LoadError::Integer(error) => write!(f, "malformed integer in XML: {error}"),
+            LoadError::Bool(error) => write!(f, "malformed truth value in XML: {error}"),
             LoadError::Database(error) => error.fmt(f),
             LoadError::Io(error) => write!(f, "I/O error: {error}"),
         }
@@ -133,6 +143,18 @@ impl std::error::Error for LoadError {}
 impl From<MetadataError> for LoadError {
     fn from(error: MetadataError) -> LoadError {
         LoadError::Metadata(error)
+    }
+}
+
+impl From<ParseIntError> for LoadError {
+    fn from(error: ParseIntError) -> LoadError {
+        LoadError::Integer(error)
+    }
+}
+
+impl From<ParseBoolError> for LoadError {
+    fn from(error: ParseBoolError) -> LoadError {
+        LoadError::Bool(error)
     }
 }
 

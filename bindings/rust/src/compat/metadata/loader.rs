@@ -1,8 +1,10 @@
-//! The records of which a database is made, and their JSON text.
+//! The records of which a database is made, and the texts that have them.
 use super::json::{self, Json};
+use super::xml;
 use crate::Error;
 use crate::compat::error::{LoadError, MetadataError};
 use crate::dialling::push_text;
+use std::io::BufRead;
 
 /// What stands in a record.
 pub(super) trait Value: Sized {
@@ -188,6 +190,23 @@ record! {
         possible_local_length: Vec<u16>,
         example: Option<String>,
     }
+}
+
+/// The records of a text: libphonenumber's XML, or JSON, a list of objects whose members are these fields.
+///
+/// ```
+/// use phonenumber_proved::compat::metadata::loader::load;
+/// let text = r#"<phoneNumberMetadata><territories>
+///     <territory id="NZ" countryCode="64"><generalDesc><possibleLengths national="[8-10]"/></generalDesc></territory>
+/// </territories></phoneNumberMetadata>"#;
+/// let records = load(text.as_bytes()).unwrap();
+/// assert_eq!(records[0].general.as_ref().unwrap().possible_length, [8, 9, 10]);
+/// ```
+pub fn load<R: BufRead>(mut reader: R) -> Result<Vec<Metadata>, LoadError> {
+    let mut text = String::new();
+    reader.read_to_string(&mut text)?;
+    let text = text.trim_start_matches('\u{feff}');
+    if text.trim_start().starts_with('<') { xml::records_of(text) } else { records_of(text) }
 }
 
 /// The records that a JSON text has.

@@ -14,6 +14,7 @@ use std::sync::{Arc, LazyLock, OnceLock};
 
 mod json;
 pub mod loader;
+mod xml;
 
 /// The library's own metadata, which the first call opens.
 pub static DATABASE: LazyLock<Database> = LazyLock::new(|| {
@@ -55,10 +56,11 @@ impl Index {
 impl Database {
     /// The database that a file is, in the form of [`Database::parse`].
     pub fn load<P: AsRef<Path>>(path: P) -> Result<Database, LoadError> {
-        Database::parse(std::fs::read_to_string(path)?)
+        Database::from(loader::load(std::io::BufReader::new(std::fs::File::open(path)?))?)
     }
 
-    /// The database that a text is: JSON, a list of records, each with the fields of [`loader::Metadata`].
+    /// The database that a text is: libphonenumber's XML, or JSON, a list of records, each with the fields of
+    /// [`loader::Metadata`].
     ///
     /// ```
     /// use phonenumber_proved::compat::{MetadataError, metadata::Database, parse_with};
@@ -69,7 +71,7 @@ impl Database {
     /// assert_eq!(refused.to_string(), r#"metadata: missing value: "generalDesc""#);
     /// ```
     pub fn parse<S: AsRef<str>>(content: S) -> Result<Database, LoadError> {
-        Database::from(loader::records_of(content.as_ref())?)
+        Database::from(loader::load(content.as_ref().as_bytes())?)
     }
 
     /// The database of records.
