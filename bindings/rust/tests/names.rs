@@ -94,7 +94,7 @@ fn metadata_are_told() {
     assert_eq!(of_code, [true, false, false, false]);
     let it = DATABASE.by_id("NZ").unwrap();
     assert_eq!((it.id(), it.country_code(), it.national_prefix(), it.preferred_international_prefix()), ("NZ", 64, Some("0"), Some("00")));
-    assert_eq!((it.is_mobile_number_portable(), it.international_formats().is_empty()), (true, true));
+    assert_eq!((it.is_mobile_number_portable(), it.formats().len(), it.international_formats().len()), (true, 6, 6));
     assert_eq!(it.international_prefix().map(|it| it.as_str()), Some("0(?:0|161)"));
     let again = metadata::Database::parse(WORLD).unwrap();
     assert_eq!(format!("{:?}", again.by_id("NZ")), format!("{:?}", Some(it)));

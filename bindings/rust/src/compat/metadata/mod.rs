@@ -337,12 +337,18 @@ kinds! {
 }
 
 /// What national numbers look like.
-#[derive(Clone, Debug)]
+#[derive(Clone)]
 pub struct Descriptor {
     record: loader::Descriptor,
     national_number: Pattern,
     /// A database whose valid numbers are these, once it was asked.
     asked: OnceLock<crate::Database>,
+}
+
+impl fmt::Debug for Descriptor {
+    fn fmt(&self, f: &mut fmt::Formatter<'_>) -> fmt::Result {
+        self.record.fmt(f)
+    }
 }
 
 impl Descriptor {
@@ -399,11 +405,17 @@ impl Descriptor {
 }
 
 /// A number format.
-#[derive(Clone, Debug)]
+#[derive(Clone)]
 pub struct Format {
     record: loader::Format,
     pattern: Pattern,
     leading_digits: Vec<Pattern>,
+}
+
+impl fmt::Debug for Format {
+    fn fmt(&self, f: &mut fmt::Formatter<'_>) -> fmt::Result {
+        self.record.fmt(f)
+    }
 }
 
 impl Format {
