@@ -111,7 +111,7 @@ def how_far_it_is_is_told(world):
     def stops(done, _):
         raise KeyError(done)
 
-    check("stopped", refused(world.columns, texts, "NZ", threads=4, progress=stops), ("KeyError", "8192"))
+    check("stopped", refused(world.columns, texts, "NZ", threads=4, progress=stops), ("KeyError", "7500"))
     long = ["+64 3 331 6005 ext. 1234567"] * 1000
     check("long", world.columns(long, None, ["rfc3966"])["rfc3966"], ["tel:+64-3-331-6005;ext=1234567"] * 1000)
 

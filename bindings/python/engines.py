@@ -101,10 +101,11 @@ def lines_told(engine, told):
 class Processes:
     """As many processes as threads, each of which has a table and a part of the rows."""
 
-    def __init__(self, engine, path, threads):
-        context = multiprocessing.get_context("spawn")
+    def __init__(self, engine, texts, hints, threads):
+        context = multiprocessing.get_context("fork")
         self.start, self.end = context.Barrier(threads + 1), context.Barrier(threads + 1)
-        self.all = [context.Process(target=_works, args=(engine, path, k, threads, self.start, self.end)) for k in range(threads)]
+        parts = [slice(k * len(texts) // threads, (k + 1) * len(texts) // threads) for k in range(threads)]
+        self.all = [context.Process(target=self._works, args=(engine, texts[it], hints[it])) for it in parts]
         for it in self.all:
             it.start()
         self.seconds()  # what is read first comes into the processor's cache
@@ -121,21 +122,17 @@ class Processes:
         for it in self.all:
             it.join()
 
-
-def _works(engine, path, part, parts, start, end):
-    texts, hints = lines_of(path)
-    own = slice(part * len(texts) // parts, (part + 1) * len(texts) // parts)
-    with Database.load() as world:
-        given = given_to(engine, texts[own], hints[own])
-        del texts, hints
-        try:
-            while True:
-                start.wait(WAIT)
-                told = world.columns(*given, COLUMNS, 1)
-                end.wait(WAIT)
-                del told
-        except threading.BrokenBarrierError:
-            return
+    def _works(self, engine, texts, hints):
+        given = given_to(engine, texts, hints)
+        with Database.load() as world:
+            try:
+                while True:
+                    self.start.wait(WAIT)
+                    told = world.columns(*given, COLUMNS, 1)
+                    self.end.wait(WAIT)
+                    del told
+            except threading.BrokenBarrierError:
+                return
 
 
 def in_turn(world, texts, hints):
@@ -223,7 +220,7 @@ def main():
                 if count == 1:
                     tell(f"{engine}, 1 thread", seconds)
             del told
-            beside = Processes(engine, words[0], threads) if engine in ("list", "arrow") else None
+            beside = Processes(engine, texts, hints, threads) if engine in ("list", "arrow") else None
             for _ in range(TURNS):
                 tell(f"{engine}, {threads} threads", timed(world, given, threads)[1])
                 if beside:

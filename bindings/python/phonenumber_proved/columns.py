@@ -65,8 +65,8 @@ class Column(enum.IntEnum):
 #: The columns that are told where no others are asked for.
 COLUMNS = (Column.E164, Column.KIND, Column.REGION, Column.VALIDITY, Column.REFUSAL)
 
-# So many rows are parsed by one call.
-_PIECE = 8192
+# So many rows are parsed by one call at most, and so many at least where there are as many.
+_PIECE, _LEAST = 8192, 256
 # So many bytes a row has in each column, with what texts seldom exceed.
 _WIDTHS = (28, 36, 32, 40, 2, 8, 1, 1, 2, 1, 1, 1, 1)
 # The statuses that a text has which is no number.
@@ -273,7 +273,6 @@ class _Texts:
             raise TypeError("a column of texts is wanted, not one text")
         else:
             self._values = list(given.tolist() if hasattr(given, "tolist") else given)
-            self.starts += range(_PIECE, len(self._values), _PIECE)
             self.starts.append(len(self._values))
         self.count = self.starts[-1]
 
@@ -331,10 +330,17 @@ def _read(
         room = wrote.value
 
 
-def _pieces(texts: _Texts, hints: Union[_Texts, bytes]) -> List[Tuple[int, int]]:
-    """Where pieces begin, and how many rows each has: within what is one chunk of both."""
+def _pieces(
+    texts: _Texts, hints: Union[_Texts, bytes], threads: int
+) -> List[Tuple[int, int]]:
+    """Where pieces begin, and how many rows each has: within what is one chunk of both.
+
+    Threads have as many rows each, so that they end together.
+    """
+    rounds = -(-texts.count // (threads * _PIECE)) or 1
+    size = max(_LEAST, -(-texts.count // (threads * rounds)))
     starts = {*texts.starts, *(hints.starts if isinstance(hints, _Texts) else ())}
-    ends = sorted({*starts, *range(0, texts.count, _PIECE)})
+    ends = sorted({*starts, *range(0, texts.count, size)})
     return [(a, b - a) for a, b in zip(ends, ends[1:])]
 
 
@@ -346,6 +352,10 @@ def _parsed(
     rules: Rules, progress: Optional[Progress],
 ) -> Iterator[Piece]:
     """What these columns tell of the rows of texts, piece by piece."""
+    if threads is None:
+        threads = len(os.sched_getaffinity(0))
+    if threads < 1:
+        raise ValueError("at least one thread is needed")
     own = _Texts(texts)
     under: Union[_Texts, bytes]
     if hints is None or isinstance(hints, (str, bytes)):
@@ -364,20 +374,15 @@ def _parsed(
         out, places = _read(world, numbers, own.chunk(*piece), chunk, rules)
         return Piece(piece[1], out, places, at)
 
-    return _all(read, _pieces(own, under), own.count, threads, progress)
+    return _all(read, _pieces(own, under, threads), own.count, threads, progress)
 
 
 def _all(
     read: Callable[[Tuple[int, int]], Piece], pieces: Sequence[Tuple[int, int]], count: int,
-    threads: Optional[int], progress: Optional[Progress],
+    threads: int, progress: Optional[Progress],
 ) -> Iterator[Piece]:
     """All pieces, in their order, parsed by so many threads; after each `progress` is called."""
-    if threads is None:
-        threads = len(os.sched_getaffinity(0))
-    if threads < 1:
-        raise ValueError("at least one thread is needed")
-    threads = min(threads, len(pieces))
-    done = 0
+    threads, done = min(threads, len(pieces)), 0
     if threads <= 1:
         for piece in map(read, pieces):
             done += piece.count
