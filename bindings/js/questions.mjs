@@ -247,26 +247,28 @@ const ASKED = {
   matches: ["matches", ([, hint, leniency, it, answer]) => [matches(hint, leniency, it), answer]],
   place: ["places", ([, ...words]) => [place(...words.slice(0, 9)), words[9].split("\t").slice(2).join("\t")]],
 };
-let all = 0, differ = 0, held;
-for (const [call, [file, ask]] of Object.entries(ASKED)) {
-  let asked = 0;
-  for (const line of readFileSync(`${data}/${file}.tsv`, "utf8").split("\n")) {
-    const [name, ...fields] = line.split("\t");
-    if (name !== call) continue;
-    next = first;
-    if (call === "question") fields.pop();
-    const [told, answer] = ask(fields.map(plain));
-    if (told === undefined) continue;
-    asked++;
-    held ??= calls.heap_taken();
-    if (told !== answer && differ++ < 20) console.error(`${line}\n  here: ${JSON.stringify(told)}`);
+/** Asks all rows, and prints those that differ; how many there are, and how many differ. */
+function asked(isTold) {
+  let all = 0, differ = 0;
+  for (const [call, [file, ask]] of Object.entries(ASKED)) {
+    const before = all;
+    for (const line of readFileSync(`${data}/${file}.tsv`, "utf8").split("\n")) {
+      const [name, ...fields] = line.split("\t");
+      if (name !== call) continue;
+      next = first;
+      if (call === "question") fields.pop();
+      const [told, answer] = ask(fields.map(plain));
+      if (told === undefined) continue;
+      all++;
+      if (told !== answer && differ++ < 20) console.error(`${line}\n  here: ${JSON.stringify(told)}`);
+    }
+    if (isTold) console.log(`${call}: ${all - before}`);
   }
-  console.log(`${call}: ${asked}`);
-  all += asked;
+  return [all, differ];
 }
-if (calls.heap_taken() !== held) {
-  console.error(`questions: ${calls.heap_taken()} bytes are held, and not ${held}`);
-  differ++;
-}
-console.log(differ ? `questions: ${differ} of ${all} differ` : `questions: ok, ${all} rows`);
-process.exit(differ ? 1 : 0);
+asked(false);
+// What is held after all rows is held after all rows once more.
+const held = calls.heap_taken(), [all, differ] = asked(true), isHeld = calls.heap_taken() === held;
+if (!isHeld) console.error(`questions: ${calls.heap_taken()} bytes are held, and not ${held}`);
+console.log(differ || !isHeld ? `questions: ${differ} of ${all} differ` : `questions: ok, ${all} rows`);
+process.exit(differ || !isHeld ? 1 : 0);
