@@ -530,7 +530,7 @@ class PhoneNumber:
         return self._written(lib.phone_original_text, at, len(at), *_given(raw), region=region)
 
     def format_by(self, layouts: "Layouts", mode: Mode = Mode.NATIONAL) -> str:
-        """The text in a mode by a program's own layouts, the first of them that suits it.
+        r"""The text in a mode by a program's own layouts, the first of them that suits it.
 
         E.164 text isn't laid out: `library_format_by` does that too, as libphonenumber.
 

@@ -9,6 +9,7 @@ use crate::found::example_of;
 use crate::number::{Mode, PhoneNumber, Type};
 use crate::possible::{POSSIBILITIES, Possibility};
 use crate::questions::{NumberMatch, matched};
+use crate::region::Region;
 use crate::short::{COSTS, Cost, ShortNumbers};
 
 /// A call that writes how a number is dialled with its letters.
@@ -22,40 +23,40 @@ impl Database {
     /// dialled as [`Database::text_from`] has it.
     ///
     /// ```
-    /// use phonenumber_proved::Database;
+    /// use phonenumber_proved::{Database, Region};
     /// let (world, text) = (Database::world()?, "0800 FLOWERS");
-    /// let number = world.parse(Some("NZ"), text)?;
-    /// assert_eq!(world.dialled_with_letters(Some("NZ"), text, &number)?, "0800 FLOWERS");
-    /// assert_eq!(world.dialled_with_letters(Some("AT"), text, &number)?, "00 64 800 FLOWERS");
+    /// let number = world.parse(Region::NZ, text)?;
+    /// assert_eq!(world.dialled_with_letters(Region::NZ, text, &number)?, "0800 FLOWERS");
+    /// assert_eq!(world.dialled_with_letters(Region::AT, text, &number)?, "00 64 800 FLOWERS");
     /// # Ok::<(), phonenumber_proved::Error>(())
     /// ```
     pub fn dialled_with_letters(
-        &self, region: Option<&str>, raw: &str, number: &PhoneNumber,
+        &self, region: impl Into<Option<Region>>, raw: &str, number: &PhoneNumber,
     ) -> Result<String, Error> {
-        self.lettered(ffi::phone_dialled_with_letters, region, raw, number)
+        self.lettered(ffi::phone_dialled_with_letters, region.into(), raw, number)
     }
 
     /// The same as libphonenumber has it, with what the text has from where the number's first three digits stand. That may
     /// lose the national prefix, or write it twice.
     ///
     /// ```
-    /// use phonenumber_proved::Database;
+    /// use phonenumber_proved::{Database, Region};
     /// let (world, text) = (Database::world()?, "03 331 6005");
-    /// let number = world.parse(Some("NZ"), text)?;
-    /// assert_eq!(world.text_with_letters(Some("NZ"), text, &number)?, "003 331 6005");
-    /// assert_eq!(world.dialled_with_letters(Some("NZ"), text, &number)?, "03 331 6005");
+    /// let number = world.parse(Region::NZ, text)?;
+    /// assert_eq!(world.text_with_letters(Region::NZ, text, &number)?, "003 331 6005");
+    /// assert_eq!(world.dialled_with_letters(Region::NZ, text, &number)?, "03 331 6005");
     /// # Ok::<(), phonenumber_proved::Error>(())
     /// ```
     pub fn text_with_letters(
-        &self, region: Option<&str>, raw: &str, number: &PhoneNumber,
+        &self, region: impl Into<Option<Region>>, raw: &str, number: &PhoneNumber,
     ) -> Result<String, Error> {
-        self.lettered(ffi::phone_text_with_letters, region, raw, number)
+        self.lettered(ffi::phone_text_with_letters, region.into(), raw, number)
     }
 
     fn lettered(
-        &self, call: Lettered, region: Option<&str>, raw: &str, number: &PhoneNumber,
+        &self, call: Lettered, region: Option<Region>, raw: &str, number: &PhoneNumber,
     ) -> Result<String, Error> {
-        let ((number, texts), from) = (number.to_ffi(), hint_of(region)?);
+        let ((number, texts), from) = (number.to_ffi(), hint_of(region));
         text_of(64, |out, len, wrote| {
             let (bytes, bytes_len, at) = (texts.as_ptr(), texts.len(), raw.as_ptr());
             // SAFETY: the handle is open, and lent to the call alone; the slices are valid, apart and initialized.
@@ -70,16 +71,18 @@ impl Database {
     /// where [`Database::library_mobile_text`] takes the main region alone.
     ///
     /// ```
-    /// use phonenumber_proved::{Database, PhoneNumber};
+    /// use phonenumber_proved::{Database, PhoneNumber, Region};
     /// let world = Database::world()?;
-    /// let number = world.parse(Some("NZ"), "03-331 6005")?;
-    /// assert_eq!(world.mobile_text("NZ", true, &number)?, "03 331 6005");
-    /// assert_eq!(world.mobile_text("US", false, &number)?, "+6433316005");
-    /// assert_eq!(world.mobile_text("CA", true, &PhoneNumber::from_parts(1, 911, 0)?)?, "911");
+    /// let number = world.parse(Region::NZ, "03-331 6005")?;
+    /// assert_eq!(world.mobile_text(Region::NZ, true, &number)?, "03 331 6005");
+    /// assert_eq!(world.mobile_text(Region::US, false, &number)?, "+6433316005");
+    /// assert_eq!(world.mobile_text(Region::CA, true, &PhoneNumber::from_parts(1, 911, 0)?)?, "911");
     /// # Ok::<(), phonenumber_proved::Error>(())
     /// ```
-    pub fn mobile_text(&self, id: &str, with_symbols: bool, number: &PhoneNumber) -> Result<String, Error> {
-        let ((number, texts), symbols) = (number.to_ffi(), u8::from(with_symbols));
+    pub fn mobile_text(
+        &self, id: impl AsRef<str>, with_symbols: bool, number: &PhoneNumber,
+    ) -> Result<String, Error> {
+        let ((number, texts), id, symbols) = (number.to_ffi(), id.as_ref(), u8::from(with_symbols));
         text_of(64, |out, len, wrote| {
             let (bytes, bytes_len, region) = (texts.as_ptr(), texts.len(), id.as_ptr());
             // SAFETY: as in `lettered`.
