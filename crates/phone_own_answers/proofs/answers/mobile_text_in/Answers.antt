@@ -10,5 +10,5 @@ returns c =
     let n = c.args.number.now in
     let symbols = c.args.symbols in
     let same : c.value.result ≡ n.code.value = search rules in
-    let home : c.home_id.result.now ≡ home_id db id n.code.value = c.home_id.ensures ∙ ap (λ (k : ℕ). home_id db id k) same in
+    let home : c.home_id-home.result.now ≡ home_id db id n.code.value = c.home_id-home.ensures ∙ ap (λ (k : ℕ). home_id db id k) same in
     subst (λ (h : List ℕ). IfOk c.mobile_text.result (λ t. string_bytes t ≡ mobile_text db h symbols None n)) home c.mobile_text.ensures
