@@ -67,7 +67,10 @@ def platform(library):
     machine = MACHINES[int.from_bytes(library[18:20], "little")]
     needed, texts = texts_of(library)
     versions = [int(it) for it in re.findall(rb"GLIBC_2\.(\d+)", texts)]
-    return f"manylinux_2_{max([17, *versions])}_{machine}" if needed <= {b"libc.so.6"} else f"linux_{machine}"
+    newest = max([17, *versions])
+    # Version 2.17 has two names, of which older pips know the second alone.
+    older = f".manylinux2014_{machine}" if newest == 17 else ""
+    return f"manylinux_2_{newest}_{machine}{older}" if needed <= {b"libc.so.6"} else f"linux_{machine}"
 
 
 def about():
@@ -112,7 +115,9 @@ def licences_file():
 
 def metadata(tag):
     """The files of a wheel that tell of it, by their names."""
-    wheel = f"Wheel-Version: 1.0\nGenerator: make_wheel\nRoot-Is-Purelib: false\nTag: {tag}\n"
+    python, abi, platforms = tag.split("-")
+    tags = "".join(f"Tag: {python}-{abi}-{it}\n" for it in platforms.split("."))
+    wheel = f"Wheel-Version: 1.0\nGenerator: make_wheel\nRoot-Is-Purelib: false\n{tags}"
     licences = licences_file()
     return {
         "METADATA": about().encode(), "WHEEL": wheel.encode(), "LICENSE": OWN_LICENCE.read_bytes(),
