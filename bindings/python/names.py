@@ -75,6 +75,9 @@ MATCHES = [
 FOUND = [
     ("Ring 03-331 6005, or +1 650 253 0000", "NZ", Leniency.VALID, [(5, "03-331 6005", 33316005), (21, "+1 650 253 0000", 6502530000)]),
     ("Z\u00fcrich \U0001f4a9 +41 44 668 18 00", None, Leniency.VALID, [(9, "+41 44 668 18 00", 446681800)]),
+    ("033 31 60 05", "NZ", Leniency.VALID, [(0, "033 31 60 05", 33316005)]), ("033 31 60 05", "NZ", Leniency.STRICT_GROUPING, []),
+    ("03 3316 005, 033 31 60 05", "NZ", Leniency.EXACT_GROUPING, [(0, "03 3316 005", 33316005)]),
+    ("03 331 6005, 03 3316005", "NZ", Leniency.EXACT_GROUPING, [(0, "03 331 6005", 33316005)]),
     ("+1 650 253 000", "US", Leniency.VALID, []), ("no number", "ZZ", Leniency.POSSIBLE, []), (None, "US", Leniency.VALID, []),
 ]
 
@@ -139,7 +142,7 @@ def numbers_are_compared_and_found():
         matcher = names.PhoneNumberMatcher(text, region, leniency)
         check(text, [(it.start, it.raw_string, it.number.national_number) for it in matcher], found)
         check(text, (matcher.has_next(), len(list(matcher))), (False, 0))
-    for wrong in (dict(leniency=2), dict(leniency=None), dict(max_tries=-1)):
+    for wrong in (dict(leniency=4), dict(leniency=None), dict(max_tries=-1)):
         try:
             check(wrong, names.PhoneNumberMatcher("", None, **wrong), "a refusal")
         except ValueError:
@@ -327,7 +330,9 @@ def records_are_told():
     record = names.PhoneMetadata.metadata_for_region("NZ")
     check("record", (record.id, record.country_code, record.national_prefix, record.international_prefix), ("NZ", 64, "0", "0(?:0|161)"))
     check("kinds", (record.mobile.possible_length, record.pager is None, record.fixed_line.example_number), ((8, 9, 10), True, "32345678"))
-    check("layouts", (record.number_format[0].format[:2], len(record.intl_number_format) > 0), ("\\1", True))
+    layouts = record.number_format, names.PhoneMetadata.metadata_for_region("US").intl_number_format
+    check("layouts", [it[-1].format for it in layouts], ["\\1 \\2 \\3", "\\1-\\2-\\3"])
+    check("rules", (record.number_format[0].national_prefix_formatting_rule, record.national_prefix_for_parsing), ("0\\1", "0"))
     check("others", (names.PhoneMetadata.metadata_for_region("XX"), names.PhoneMetadata.metadata_for_nongeo_region(800).id,
                      names.PhoneMetadata.metadata_for_region_or_calling_code(800, "001").country_code), (None, "001", 800))
     check("same", record == names.PhoneMetadata.metadata_for_region("NZ"), True)
