@@ -336,6 +336,35 @@ def records_are_told():
     check("others", (names.PhoneMetadata.metadata_for_region("XX"), names.PhoneMetadata.metadata_for_nongeo_region(800).id,
                      names.PhoneMetadata.metadata_for_region_or_calling_code(800, "001").country_code), (None, "001", 800))
     check("same", record == names.PhoneMetadata.metadata_for_region("NZ"), True)
+    check("told", eval(repr(record), vars(names)) == record, True)
+    short = names.PhoneMetadata.short_metadata_for_region("NZ")
+    check("short", (short.id, short.country_code, short.short_data, short.emergency.example_number, short.sms_services.possible_length),
+          ("NZ", None, True, "111", (3, 4)))
+    check("no short", names.PhoneMetadata.short_metadata_for_region("XX", record) is record, True)
+
+
+def records_are_registered():
+    own, loaded = names.PhoneMetadata("XY", national_prefix="9"), []
+    names.PhoneMetadata("XY", national_prefix="9")
+    names.PhoneMetadata("XY", national_prefix="8", register=False)
+    names.PhoneMetadata.register_region_loader("XZ", lambda it: loaded.append(names.PhoneMetadata(it)))
+    for _ in range(2):
+        found = names.PhoneMetadata.metadata_for_region("XZ")
+        check("loaded", ([it.id for it in loaded], found is loaded[0]), (["XZ"], True))
+    check("registered", names.PhoneMetadata.metadata_for_region("XY") is own, True)
+    check("no answer changes", (names.is_supported("XY"), "XY" in names.SUPPORTED_REGIONS), (False, False))
+    for change in (
+        lambda: names.PhoneMetadata("XY", national_prefix="8"), lambda: names.PhoneMetadata("NZ"), lambda: setattr(own, "national_prefix", "8"),
+        lambda: delattr(own, "id"), lambda: own.merge_from(own), lambda: names.PhoneMetadata("XY", prefix="9"),
+    ):
+        try:
+            change()
+        except Exception:  # pylint: disable=broad-except
+            continue
+        check("refused", change, "a refusal")
+    own._mutable = True
+    own.national_prefix = "8"
+    check("changed", own.national_prefix, "8")
 
 
 def readme():
@@ -351,7 +380,7 @@ def readme():
 def main():
     for case in (numbers_are_read, numbers_are_told, numbers_are_compared_and_found, regions_are_told, places_are_told, short_numbers_are_told,
                  numbers_are_dialled, further_questions_are_answered, numbers_are_data, numbers_have_classes_made_of_them, package_is_installed,
-                 records_are_told, readme):
+                 records_are_told, records_are_registered, readme):
         case()
     missing = [name for name in names.__all__ if not hasattr(names, name)]
     check("names", missing, [])
