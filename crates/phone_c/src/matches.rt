@@ -9,7 +9,7 @@ ghost use Rattle.phone_c_matches.specs.Matches.{UnderLeniency};
 use phone_c_base::found::Place;
 use phone_c_base::handle::{Handle, put, take};
 use phone_c_base::status::{CLOSED, MEMORY, NO_LENIENCY, NO_REGION, NOT_UTF8, OK, TOO_SMALL};
-use phone_c_matches::matches::matches;
+use phone_c_matches::matches::{matches, matches_by};
 use std::alloc::Global;
 
 /// Writes where the numbers of a running text stand, in their order, under the hint that
@@ -61,16 +61,7 @@ pub extern "C" fn phone_matches(
     let Some(opened) = take(alloc, handle) else {
         return CLOSED;
     };
-    let status = matches(
-        opened.database(),
-        None,
-        hint,
-        leniency,
-        tries,
-        text,
-        out,
-        wrote,
-    );
+    let status = matches(opened.database(), hint, leniency, tries, text, out, wrote);
     put(alloc, handle, opened);
     status
 }
@@ -126,16 +117,7 @@ pub extern "C" fn phone_matches_by(
         return CLOSED;
     };
     let (database, layouts) = (opened.database(), own.database());
-    let status = matches(
-        database,
-        Some(layouts),
-        hint,
-        leniency,
-        tries,
-        text,
-        out,
-        wrote,
-    );
+    let status = matches_by(database, layouts, hint, leniency, tries, text, out, wrote);
     put(alloc, alternates, own);
     put(alloc, handle, opened);
     status

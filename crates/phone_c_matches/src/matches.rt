@@ -4,8 +4,9 @@ ghost use Rattle.std.specs.Prelude.{unwrap_or};
 ghost use Rattle.std.specs.Option.{option_copied};
 ghost use Rattle.phone_c_base.specs.Buffers.{IsTooLongA, IsWrittenA};
 ghost use Rattle.phone_c_base.specs.Hints.{UnderHint, hint_of};
-ghost use Rattle.phone_c_matches.specs.Matches.{ArePlacesBy, IsNoLeniency, UnderLeniency};
-ghost use Rattle.phone_c_matches.specs.Matches.{leniency_number, place_of, places_of};
+ghost use Rattle.phone_c_matches.specs.Matches.{ArePlaces, ArePlacesBy, IsNoLeniency};
+ghost use Rattle.phone_c_matches.specs.Matches.{UnderLeniency, leniency_number, place_of};
+ghost use Rattle.phone_c_matches.specs.Matches.{places_of};
 
 use phone_c_base::buffer::give;
 use phone_c_base::found::Place;
@@ -103,14 +104,8 @@ fn matches_under(
     }
 }
 
-/// Where the numbers of a text stand, in a buffer, as `phone_matches` and `phone_matches_by` write
-/// it. Where groups are asked for, alternate layouts are those of a database of such, where there
-/// is one.
-///
-/// `NO_LENIENCY` exactly where the leniency is above 3, else `NO_REGION` exactly where the hint has
-/// a byte and is no region's id, else `NOT_UTF8` exactly where the text isn't UTF-8; `TOO_SMALL`,
-/// `MEMORY`. For each but `OK` `out` is as it was.
-pub fn matches(
+/// The same by alternate layouts, where there are some.
+fn matches_given(
     database: &Plans,
     alternates: Option<&Plans>,
     hint: &[u8],
@@ -148,5 +143,79 @@ pub fn matches(
     };
     matches_under(
         database, alternates, hint, leniency, tries, text, out, wrote,
+    )
+}
+
+/// Where the numbers of a text stand, in a buffer, without alternate layouts.
+///
+/// `NO_LENIENCY` exactly where the leniency is above 3, else `NO_REGION` exactly where the hint has
+/// a byte and is no region's id, else `NOT_UTF8` exactly where the text isn't UTF-8; `TOO_SMALL`,
+/// `MEMORY`. For each but `OK` `out` is as it was.
+pub fn matches(
+    database: &Plans,
+    hint: &[u8],
+    leniency: u32,
+    tries: u64,
+    text: &[u8],
+    out: &mut [Place],
+    wrote: &mut usize,
+) -> u32
+    ensures written { result ≡ OK → UnderHint hint.now (λ h.
+        UnderLeniency leniency (λ l. IsWrittenA
+        (ArePlaces database.now h l tries text.now) out.old out.new wrote.new)) }
+    ensures too_small { result ≡ TOO_SMALL → UnderHint hint.now (λ h.
+        UnderLeniency leniency (λ l. IsTooLongA
+        (ArePlaces database.now h l tries text.now) out.old out.new wrote.new)) }
+    ensures closed { ¬ (result ≡ CLOSED) }
+    ensures no_leniency { (result ≡ NO_LENIENCY) ↔ IsNoLeniency leniency }
+    ensures no_region { (result ≡ NO_REGION) ↔
+        (¬ (IsNoLeniency leniency) × (hint_of hint.now ≡ None)) }
+    ensures not_utf8 { (result ≡ NOT_UTF8) ↔
+        (¬ (IsNoLeniency leniency) × ¬ (hint_of hint.now ≡ None) × ¬ (IsUtf8 text.now)) }
+    ensures other { ¬ (result ≡ OK) → ¬ (result ≡ TOO_SMALL) → ¬ (result ≡ NO_LENIENCY) →
+        ¬ (result ≡ NO_REGION) → ¬ (result ≡ NOT_UTF8) → result ≡ MEMORY }
+    ensures untouched { ¬ (result ≡ OK) → out.new ≡ out.old }
+    ensures no_length { ¬ (result ≡ OK) → ¬ (result ≡ TOO_SMALL) → wrote.new ≡ 0 }
+{
+    matches_given(database, None, hint, leniency, tries, text, out, wrote)
+}
+
+/// The same by alternate layouts: where groups are asked for, those of this database count too.
+pub fn matches_by(
+    database: &Plans,
+    alternates: &Plans,
+    hint: &[u8],
+    leniency: u32,
+    tries: u64,
+    text: &[u8],
+    out: &mut [Place],
+    wrote: &mut usize,
+) -> u32
+    ensures written { result ≡ OK → UnderHint hint.now (λ h.
+        UnderLeniency leniency (λ l. IsWrittenA
+        (ArePlacesBy database.now alternates.now h l tries text.now) out.old out.new wrote.new)) }
+    ensures too_small { result ≡ TOO_SMALL → UnderHint hint.now (λ h.
+        UnderLeniency leniency (λ l. IsTooLongA
+        (ArePlacesBy database.now alternates.now h l tries text.now) out.old out.new wrote.new)) }
+    ensures closed { ¬ (result ≡ CLOSED) }
+    ensures no_leniency { (result ≡ NO_LENIENCY) ↔ IsNoLeniency leniency }
+    ensures no_region { (result ≡ NO_REGION) ↔
+        (¬ (IsNoLeniency leniency) × (hint_of hint.now ≡ None)) }
+    ensures not_utf8 { (result ≡ NOT_UTF8) ↔
+        (¬ (IsNoLeniency leniency) × ¬ (hint_of hint.now ≡ None) × ¬ (IsUtf8 text.now)) }
+    ensures other { ¬ (result ≡ OK) → ¬ (result ≡ TOO_SMALL) → ¬ (result ≡ NO_LENIENCY) →
+        ¬ (result ≡ NO_REGION) → ¬ (result ≡ NOT_UTF8) → result ≡ MEMORY }
+    ensures untouched { ¬ (result ≡ OK) → out.new ≡ out.old }
+    ensures no_length { ¬ (result ≡ OK) → ¬ (result ≡ TOO_SMALL) → wrote.new ≡ 0 }
+{
+    matches_given(
+        database,
+        Some(alternates),
+        hint,
+        leniency,
+        tries,
+        text,
+        out,
+        wrote,
     )
 }
