@@ -11,7 +11,7 @@ from ._calls import (
     words_of, written,
 )
 from ._asked import Asked
-from .columns import COLUMNS, Column, Progress, columns_named, read_columns, shaped
+from .columns import COLUMNS, Column, Progress, columns_named, columns_of
 from .errors import BadDatabase
 from .field import Typing
 from .held import Held, PathText
@@ -296,7 +296,7 @@ class Database(Asked, Records):
         asked, by = columns_named(columns), Rules(rules)
         if isinstance(hints, (str, bytes)):
             self.typed("", hints)  # the hint alone is looked at
-        return shaped(read_columns(self, texts, hints, asked, threads, by, progress), texts)
+        return columns_of(self, texts, hints, asked, threads, by, progress)
 
     def example(
         self, region: str, kind: Kind, rules: Rules = Rules.LIBRARY

@@ -446,7 +446,7 @@ class PhoneNumber:
         return self._written(lib.phone_original_text, at, len(at), *_given(raw), region=region)
 
     def format_by(self, layouts: "Layouts", mode: Mode = Mode.NATIONAL) -> str:
-        """The text in a mode by a program's own layouts, the first of them that suits it.
+        r"""The text in a mode by a program's own layouts, the first of them that suits it.
 
         >>> from phonenumber_proved import Database, Layout, Layouts
         >>> own = Layouts([Layout(r"(\d)(\d+)", "$1 $2", national_prefix_rule="($NP$FG)")])
