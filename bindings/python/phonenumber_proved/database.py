@@ -12,7 +12,7 @@ from ._calls import (
 )
 from ._asked import Asked
 from ._locks import new_lock
-from .columns import COLUMNS, Column, Progress, columns_named, read_columns, shaped
+from .columns import COLUMNS, Column, Progress, columns_named, columns_of
 from .errors import BadDatabase
 from .field import Typing
 from .held import Held, PathText
@@ -341,7 +341,7 @@ class Database(Asked, Records):
         asked, by = columns_named(columns), Rules(rules)
         if isinstance(hints, (str, bytes)):
             self.typed("", hints)  # the hint alone is looked at
-        return shaped(read_columns(self, texts, hints, asked, threads, by, progress), texts)
+        return columns_of(self, texts, hints, asked, threads, by, progress)
 
     def example(
         self, region: str, kind: Kind, rules: Rules = Rules.LIBRARY

@@ -1,13 +1,13 @@
 //! Phone numbers, parsed and formatted as crates/phone_c proves it.
 //!
 //! ```
-//! use phonenumber_proved::{Database, Mode, Type};
+//! use phonenumber_proved::{Database, Mode, Region, Type};
 //! let world = Database::world()?;
-//! let number = world.parse(Some("NZ"), "03-331 6005 ext. 12")?;
+//! let number = world.parse(Region::NZ, "03-331 6005 ext. 12")?;
 //! assert_eq!(number.to_string(), "+6433316005");
 //! assert_eq!(world.format(&number).mode(Mode::National).to_string(), "03 331 6005 ext. 12");
 //! assert_eq!(world.number_type(&number)?, Type::FixedLine);
-//! assert_eq!(world.region(&number)?.as_deref(), Some("NZ"));
+//! assert_eq!(world.region(&number)?, Some(Region::NZ));
 //! assert!(world.is_valid(&number)? && number.extension() == Some("12"));
 //! # Ok::<(), Box<dyn std::error::Error>>(())
 //! ```
@@ -16,11 +16,11 @@
 //! crate `phonenumber` 0.3.10.
 //!
 //! ```
-//! use phonenumber_proved::{Database, Rules};
+//! use phonenumber_proved::{Database, Region, Rules};
 //! let world = Database::world()?;
 //! let text = "+44 (0)20 7946 0018";
-//! assert_eq!(world.parse(Some("US"), text)?.to_string(), "+442079460018");
-//! assert_eq!(world.by(Rules::Crate).parse(Some("US"), text)?.to_string(), "+4402079460018");
+//! assert_eq!(world.parse(Region::US, text)?.to_string(), "+442079460018");
+//! assert_eq!(world.by(Rules::Crate).parse(Region::US, text)?.to_string(), "+4402079460018");
 //! # Ok::<(), phonenumber_proved::Error>(())
 //! ```
 //!
@@ -41,6 +41,7 @@ mod possible;
 mod prefixes;
 mod questions;
 mod records;
+mod region;
 mod short;
 mod typing;
 #[cfg(feature = "serde")]
@@ -60,6 +61,7 @@ pub use prefixes::Prefixes;
 pub use questions::{
     Form, NumberFacts, NumberMatch, RegionFacts, has_letters, is_geographical, match_numbers, mobile_token, normalize,
 };
+pub use region::Region;
 pub use short::{Cost, ShortFacts, ShortNumbers, SmsServices};
 pub use typing::Typing;
 
