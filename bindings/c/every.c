@@ -11,6 +11,9 @@ static const char SHORT[] =
 static const char LAYOUTS[] =
     "[{\"id\": \"001\", \"country_code\": 1, \"general\": {\"national_number\": \"1\"}, "
     "\"formats\": [{\"pattern\": \"(\\\\d)(\\\\d+)\", \"format\": \"$1 $2\", \"national_prefix_formatting_rule\": \"($NP$FG)\"}]}]";
+static const char ALTERNATES[] =
+    "[{\"id\": \"001\", \"country_code\": 64, \"general\": {\"national_number\": \"\\\\d+\"}, "
+    "\"formats\": [{\"pattern\": \"(\\\\d)(\\\\d{4})(\\\\d{3})\", \"format\": \"$1 $2 $3\"}]}]";
 static uint8_t out[256];
 static size_t wrote;
 
@@ -208,6 +211,7 @@ static void of_own(phone_handle *world) {
 static void of_places(phone_handle *world) {
     phone_prefixes areas = PHONE_CLOSED, english = PHONE_CLOSED, carriers = PHONE_CLOSED, none = PHONE_CLOSED, zones = PHONE_CLOSED;
     phone_atlas german = PHONE_CLOSED;
+    phone_handle alternates = PHONE_CLOSED;
     phone_place places[2] = {{0, 0}, {0, 0}};
     uint8_t texts[64];
     size_t len = 0, line = 99;
@@ -234,6 +238,13 @@ static void of_places(phone_handle *world) {
     text("phone_atlas_close", phone_country_name(world, &german, &number, texts, len, out, sizeof out, &wrote));
     VALUE("phone_matches", phone_matches(world, TEXT("NZ"), PHONE_IF_VALID, 99, TEXT("3/10/2011: 03-331 6005"), places, 2, &len), len);
     printf("%u to %u\n", (unsigned)places[0].start, (unsigned)places[0].end);
+    VALUE("phone_open", phone_open(TEXT(ALTERNATES), PHONE_LIBRARY, &alternates), 0);
+    for (uint32_t each = PHONE_IF_POSSIBLE; each <= PHONE_IF_EXACT_GROUPING; each++) {
+        const char *two = "03 3316 005, 033 31 60 05";
+        VALUE("phone_matches", phone_matches(world, TEXT("NZ"), each, 99, TEXT(two), places, 2, &len), len);
+        VALUE("phone_matches_by", phone_matches_by(world, &alternates, TEXT("NZ"), each, 99, TEXT(two), places, 2, &len), len);
+    }
+    phone_close(&alternates);
 }
 
 /* The calls of tables of their own. */

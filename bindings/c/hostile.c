@@ -650,7 +650,7 @@ static phone_status carrier(phone_handle *h, phone_atlas *atlas, size_t room) {
     return phone_carrier(h, atlas, &number, phone_text(NULL, 0), 0, 1, out, room, &wrote);
 }
 static int atlases(void) {
-    phone_handle h = PHONE_CLOSED;
+    phone_handle h = PHONE_CLOSED, other = PHONE_CLOSED;
     phone_prefixes p[4] = {PHONE_CLOSED, PHONE_CLOSED, PHONE_CLOSED, PHONE_CLOSED}, zones = PHONE_CLOSED;
     phone_atlas atlas = PHONE_CLOSED;
     size_t line = 9;
@@ -693,6 +693,21 @@ static int atlases(void) {
     CHECK(1217, phone_matches(&h, B(""), 9, 9, B("+999 234"), places, PLACES, &wrote) == PHONE_NO_LENIENCY && wrote == 0);
     CHECK(1218, phone_matches(&h, B(""), 0, 9, B("+999 234"), places, 0, &wrote) == PHONE_TOO_SMALL && wrote == 1);
     CHECK(1219, phone_matches(&h, B(""), 0, 9, B("\xff"), places, 0, &wrote) == PHONE_NOT_UTF8 && wrote == 0);
+    CHECK(1230, phone_matches_by(&h, &other, B("zz"), 9, 9, B("\xff"), places, PLACES, &wrote) == PHONE_IS_CLOSED && h.at && wrote == 0);
+    CHECK(1231, phone_matches_by(&other, &h, B("zz"), 9, 9, B("\xff"), places, PLACES, &wrote) == PHONE_IS_CLOSED && h.at && wrote == 0);
+    CHECK(1232, phone_open(B(LAYOUTS), PHONE_CRATE, &other) == PHONE_OK);
+    CHECK(1233, phone_matches_by(&h, &other, B("zz"), 4, 9, B("\xff"), places, PLACES, &wrote) == PHONE_NO_LENIENCY && wrote == 0);
+    CHECK(1234, phone_matches_by(&h, &other, B("zz"), 3, 9, B("\xff"), places, PLACES, &wrote) == PHONE_NO_REGION && wrote == 0);
+    CHECK(1235, phone_matches_by(&h, &other, B(""), 3, 9, B("\xff"), places, PLACES, &wrote) == PHONE_NOT_UTF8 && wrote == 0);
+    CHECK(1236, phone_matches_by(&h, &other, B(""), 0, 9, B("+999 234"), places, 0, &wrote) == PHONE_TOO_SMALL && wrote == 1);
+    for (long k = 0;; k++) {
+        requests = 0, refuse_at = k;
+        phone_status status = phone_matches_by(&h, &other, B(""), 0, 9, B("+999 234"), places, PLACES, &wrote);
+        refuse_at = -1;
+        CHECK(1237, h.at && other.at && (status == PHONE_OK ? wrote == 1 : requests > k && status == PHONE_MEMORY && wrote == 0));
+        if (requests <= k) break;
+    }
+    phone_close(&other);
     phone_close(&h);
     CHECK(1220, carrier(&h, &atlas, 9) == PHONE_IS_CLOSED && atlas.at);
     phone_atlas_close(&atlas);

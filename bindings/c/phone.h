@@ -189,8 +189,14 @@ enum {
     PHONE_FORM_DIALLABLE = 2 /* its digits from 0 to 9, plus signs, stars and number signs; nothing else */
 };
 
-/* What is found in a text: what is parsed as a possible number, or as a valid one. */
-enum { PHONE_IF_POSSIBLE = 0, PHONE_IF_VALID = 1 };
+/* What is found in a text: what is parsed as a possible number, or as a valid one; of phone_matches and
+ * phone_matches_by also what is valid and has the groups of digits of a format in their order, or exactly. */
+enum {
+    PHONE_IF_POSSIBLE = 0,
+    PHONE_IF_VALID = 1,
+    PHONE_IF_STRICT_GROUPING = 2,
+    PHONE_IF_EXACT_GROUPING = 3
+};
 
 /* Where a number stands in a text, in bytes: from `start` to before `end`. */
 typedef struct { size_t start; size_t end; } phone_place;
@@ -672,14 +678,21 @@ phone_status phone_time_zones(phone_handle *handle, phone_prefixes *zones, const
                               const uint8_t *bytes, size_t bytes_len, uint8_t as_it_stands, uint8_t *out,
                               size_t out_len, size_t *wrote);
 
-/* Writes where numbers stand in a text as libphonenumber finds them; a leniency of 2 asks for the groups of
- * a format in their order, 3 for no other groups, both without libphonenumber's alternate formats; `tries`
- * is how many candidates and pieces without a number are looked at. phone_parse parses each of these
- * pieces, with the same default region and by libphonenumber's rules, as the number that was found. Places
- * and statuses are as of phone_find. */
+/* Writes where numbers stand in a text as libphonenumber finds them, but that the two leniencies that look at
+ * groups have no alternate formats, which phone_matches_by has; `tries` is how many candidates and pieces
+ * without a number are looked at. phone_parse parses each of these pieces, with the same default region and by
+ * libphonenumber's rules, as the number that was found. Places and statuses are as of phone_find. */
 phone_status phone_matches(phone_handle *handle, const uint8_t *hint, size_t hint_len, uint32_t leniency,
                            uint64_t tries, const uint8_t *text, size_t text_len, phone_place *out,
                            size_t out_len, size_t *wrote);
+
+/* The same by alternate formats, so that all of libphonenumber's leniencies are its own: `alternates` is a
+ * second handle, opened on a database of such (data/alternates.json is one), whose records are each of a calling
+ * code and have its further `formats`. PHONE_IS_CLOSED exactly where nothing is open behind one of the handles;
+ * all else as of phone_matches. */
+phone_status phone_matches_by(phone_handle *handle, phone_handle *alternates, const uint8_t *hint,
+                              size_t hint_len, uint32_t leniency, uint64_t tries, const uint8_t *text,
+                              size_t text_len, phone_place *out, size_t out_len, size_t *wrote);
 
 /* Writes the E.164 text of a number, a key for tables. It needs no database. Equal texts mean
  * equal calling code and national number where no calling code of the database begins another, as in

@@ -221,6 +221,9 @@ def _declare(lib: Library) -> None:
         "country_name": [u32, handle, atlas, number, text, size, text, size, pointer(size)],
         "time_zones": [u32, handle, prefixes, number, text, size, u8, text, size, pointer(size)],
         "matches": [u32, handle, text, size, u32, u64, text, size, place, size, pointer(size)],
+        "matches_by": [
+            u32, handle, handle, text, size, u32, u64, text, size, place, size, pointer(size),
+        ],
         "key": [u32, number, text, size, pointer(size)],
         "is_viable": [u32, text, size, pointer(u8)],
         "status_words": [u32, u32, text, size, pointer(size)],

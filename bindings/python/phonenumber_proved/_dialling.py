@@ -120,7 +120,7 @@ def _layouts(layouts: Tuple[Layout, ...]) -> Layouts:
 def _layout(of: NumberFormat) -> Layout:
     """A layout of that package, whose templates name groups by backslashes."""
     template, leading = (of.format or "").replace("\\", "$"), of.leading_digits_pattern
-    rule = of.national_prefix_formatting_rule
+    rule = (of.national_prefix_formatting_rule or "").replace("\\1", "$FG")
     return Layout(of.pattern or "", template, leading[-1] if leading else None, rule or None)
 
 

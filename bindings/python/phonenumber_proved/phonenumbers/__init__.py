@@ -22,8 +22,7 @@ An unknown region is none, as there. A national number of 2^56 or more, as some 
 is too long. Where versions of libphonenumber differ, the rules are a newer one's: a text with
 `;phone-context=1` is no number. `AsYouTypeFormatter` shows what `Database.typed` does: unlike
 there, keys that begin with a national or an international prefix often stay without marks until
-the number is whole. `PhoneNumberMatcher` finds what `Database.matches` does; the two levels that look
-at grouping aren't offered.
+the number is whole. `PhoneNumberMatcher` finds what `Database.matches` does.
 """
 
 from __future__ import annotations

@@ -465,6 +465,19 @@ unsafe extern "C" {
         out_len: usize,
         wrote: *mut usize,
     ) -> u32;
+    pub fn phone_matches_by(
+        handle: *mut Handle,
+        alternates: *mut Handle,
+        hint: *const u8,
+        hint_len: usize,
+        leniency: u32,
+        tries: u64,
+        text: *const u8,
+        text_len: usize,
+        out: *mut Place,
+        out_len: usize,
+        wrote: *mut usize,
+    ) -> u32;
     pub fn phone_key(number: *const Number, out: *mut u8, out_len: usize, wrote: *mut usize) -> u32;
     pub fn phone_is_viable(text: *const u8, text_len: usize, told: *mut u8) -> u32;
     pub fn phone_status_words(status: u32, out: *mut u8, out_len: usize, wrote: *mut usize) -> u32;
