@@ -1,5 +1,5 @@
 pub mod Extracts
-pub mod Kinds
+pub mod KindExamples
 pub mod Mobiles
 pub mod OneAnswers
 pub mod OneMatches

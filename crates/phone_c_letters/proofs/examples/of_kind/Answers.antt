@@ -1,5 +1,5 @@
 use Rattle.std.proofs.Common.{rules}
-use Rattle.phone_c_letters.proofs.Kinds.{none_so, refused_so, some_so}
+use Rattle.phone_c_letters.proofs.KindExamples.{none_so, refused_so, some_so}
 use Rattle.phone_c_letters.proofs.examples.of_kind.Goals as goal
 
 pub returns-in-Ok-Some-clause-read : goal.returns-in-Ok-Some-clause-read
