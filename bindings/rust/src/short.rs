@@ -39,12 +39,11 @@ pub struct ShortFacts {
 /// Metadata of short numbers. Threads use it at once, and clones share it, as with a [`Database`](crate::Database).
 ///
 /// ```
-/// use phonenumber_proved::{Cost, Error, Region, SHORT, ShortNumbers};
+/// use phonenumber_proved::{Cost, Region, SHORT, ShortNumbers};
 /// let table = ShortNumbers::from_json(SHORT)?;
 /// let facts = table.short(Region::NZ, "111")?;
 /// assert!(facts.is_valid && facts.is_emergency && facts.cost == Cost::TollFree);
-/// assert_eq!(table.short("nz", "111").unwrap_err(), Error::NoRegion);
-/// # Ok::<(), Error>(())
+/// # Ok::<(), phonenumber_proved::Error>(())
 /// ```
 #[derive(Clone)]
 pub struct ShortNumbers {
