@@ -10,6 +10,7 @@
 #include <stdlib.h>
 #include <string.h>
 #include <sys/mman.h>
+#include <sys/syscall.h>
 #include <unistd.h>
 
 /* Each table, whose bytes stand between two places; PHONE_DATA is the folder that they are of. */
@@ -60,6 +61,11 @@ int __wrap_open(const char *path, int flags, ...) {
     for (int i = 0; i < COUNT; i++)
         if (!strcmp(path, TABLES[i].path)) return descriptor_of(i);
     return __real_open(path, flags, mode);
+}
+
+/* The kernel's call, for a C library without it: musl has it from 1.2.5 on. */
+__attribute__((weak)) int statx(int folder, const char *path, int flags, unsigned mask, void *told) {
+    return (int)syscall(SYS_statx, folder, path, flags, mask, told);
 }
 
 int phone_main(void);

@@ -462,6 +462,14 @@ static phone_status find_all(worker *mine, field which, duckdb_data_chunk chunk,
     return status;
 }
 
+/* Tells the version of the table that is open, or the file of the one that PHONE_TABLE names. */
+static phone_status tell_version(worker *mine, field which, duckdb_data_chunk chunk, duckdb_vector out) {
+    (void)mine, (void)which;
+    for (idx_t row = 0; row < duckdb_data_chunk_get_size(chunk); row++)
+        put_text(out, row, sql_version, strlen(sql_version));
+    return PHONE_OK;
+}
+
 /* The functions over columns. */
 typedef struct { const char *name; int count; field which; body answer; } function;
 static const function FUNCTIONS[] = {
@@ -469,7 +477,8 @@ static const function FUNCTIONS[] = {
     {"phone_region", 2, REGION, tell},   {"phone_is_valid", 2, IS_VALID, tell},
     {"phone_refusal", 2, REFUSAL, tell}, {"phone_refusal", 3, REFUSAL, format},
     {"phone_format", 3, E164, format},   {"phone", 2, FIELDS, tell_all},
-    {"phone_find", 2, FIELDS, find_all}, {"phone_find", 3, FIELDS, find_all}};
+    {"phone_find", 2, FIELDS, find_all}, {"phone_find", 3, FIELDS, find_all},
+    {"phone_table_version", 0, FIELDS, tell_version}};
 
 #define COUNT (sizeof FUNCTIONS / sizeof *FUNCTIONS)
 
@@ -596,7 +605,7 @@ static duckdb_logical_type type_of(const function *it) {
     duckdb_type types[FIELDS];
     duckdb_logical_type found, list;
     if (it->answer == tell) return duckdb_create_logical_type(FIELD[it->which].type);
-    if (it->answer == format) return duckdb_create_logical_type(DUCKDB_TYPE_VARCHAR);
+    if (it->answer == format || it->answer == tell_version) return duckdb_create_logical_type(DUCKDB_TYPE_VARCHAR);
     for (int i = 0; i < FIELDS; i++) names[i] = FIELD[i].name, types[i] = FIELD[i].type;
     if (it->answer == tell_all) return struct_of(names, types, FIELDS);
     for (int i = 0; i < FOUND; i++) names[i] = FOUND_COLUMN[i].name, types[i] = FOUND_COLUMN[i].type;

@@ -1,14 +1,17 @@
 """Columns of many lines, by each engine in Python, against the report: engines.py [--threads N] [--only ENGINES] LINES ANSWERS
 
 LINES and ANSWERS are those of tools/million-lines. ENGINES are some of `list numpy pandas arrow dask`, one word, with commas between; those
-whose package isn't there are told of and left out. Each engine's rows are compared with ANSWERS, and its rows a second told beside those of
-the calls for one text, asked of every hundredth stretch of rows between; then by as many processes as threads, with a part each. Times are
-of the processor where one thread works, else of the clock. The last line is `engines: ok`.
+whose package isn't there are told of and left out. Each engine's rows are compared with ANSWERS. Told are the seconds of each by one thread
+and by N, for lists and Arrow in turn with those of N processes that have a part each; and what the calls for one text would take, by
+stretches of rows that they and lists are asked in turn. Times are of the processor where one thread works, else of the clock; TURNS in the
+environment is how often each is timed, 3 times where it isn't set. The last line is `engines: ok`.
 """
 
 import importlib.util
 import multiprocessing
+import os
 import sys
+import threading
 import time
 from pathlib import Path
 
@@ -16,6 +19,9 @@ from phonenumber_proved import Database, Kind, Mode, NoNumber, UnknownRegion
 
 COLUMNS = ("e164", "international", "national", "rfc3966", "kind", "region", "validity", "is_number")
 STRETCH = 1000
+TURNS = int(os.environ.get("TURNS", "3"))
+# So many seconds a process is waited for.
+WAIT = 600
 failed = []
 
 
@@ -60,54 +66,74 @@ def rows_of(columns):
     return [line_of(*row) for row in zip(*(columns[it] for it in COLUMNS))]
 
 
-def told_by(engine, world, texts, hints, threads):
-    """What an engine tells, as it gives it, by as many threads; its seconds, and its rows as lines."""
+def given_to(engine, texts, hints):
+    """The texts and hints in the form that an engine has."""
     if engine == "numpy":
         import numpy
-        texts = numpy.array(texts)
-    elif engine == "pandas":
+        return numpy.array(texts), hints
+    if engine == "pandas":
         import pandas
-        texts, hints = pandas.Series(texts), pandas.Series(hints)
-    elif engine == "arrow":
+        return pandas.Series(texts), pandas.Series(hints)
+    if engine == "arrow":
         import pyarrow
-        texts, hints = pyarrow.array(texts), pyarrow.array(hints)
+        return pyarrow.array(texts), pyarrow.array(hints)
+    return texts, hints
+
+
+def timed(world, given, threads):
+    """What columns tell by as many threads, and their seconds."""
     clock = time.process_time if threads == 1 else time.perf_counter
     began = clock()
-    told = world.columns(texts, hints, COLUMNS, threads)
-    seconds = clock() - began
+    told = world.columns(*given, COLUMNS, threads)
+    return told, clock() - began
+
+
+def lines_told(engine, told):
+    """What an engine tells, as lines."""
     if engine == "pandas":
         told = {name: told[name].astype(object).where(told[name].notna(), None).tolist() for name in COLUMNS}
     elif engine == "arrow":
         import pyarrow
         told = pyarrow.table(told)
         told = {name: told.column(name).to_pylist() for name in COLUMNS}
-    return seconds, rows_of(told)
+    return rows_of(told)
 
 
-def by_processes(path, count, threads):
-    """The seconds of as many processes, each of which opens a table and reads a part."""
-    parts = [(path, k * count // threads, (k + 1) * count // threads) for k in range(threads)]
-    with multiprocessing.get_context("spawn").Pool(threads, _open, (path,)) as pool:
-        pool.map(_ready, range(threads), 1)
+class Processes:
+    """As many processes as threads, each of which has a table and a part of the rows."""
+
+    def __init__(self, engine, texts, hints, threads):
+        context = multiprocessing.get_context("fork")
+        self.start, self.end = context.Barrier(threads + 1), context.Barrier(threads + 1)
+        parts = [slice(k * len(texts) // threads, (k + 1) * len(texts) // threads) for k in range(threads)]
+        self.all = [context.Process(target=self._works, args=(engine, texts[it], hints[it])) for it in parts]
+        for it in self.all:
+            it.start()
+        self.seconds()  # what is read first comes into the processor's cache
+
+    def seconds(self):
+        """The seconds in which all tell their parts."""
+        self.start.wait(WAIT)
         began = time.perf_counter()
-        pool.map(_part, parts, 1)
+        self.end.wait(WAIT)
         return time.perf_counter() - began
 
+    def close(self):
+        self.start.abort()
+        for it in self.all:
+            it.join()
 
-def _open(path):
-    global _world, _rows
-    _world, _rows = Database.load(), lines_of(path)
-
-
-def _ready(_):
-    _world.columns(["1"], None, COLUMNS, 1)
-    time.sleep(0.2)
-
-
-def _part(part):
-    _, start, end = part
-    texts, hints = _rows
-    _world.columns(texts[start:end], hints[start:end], COLUMNS, 1)
+    def _works(self, engine, texts, hints):
+        given = given_to(engine, texts, hints)
+        with Database.load() as world:
+            try:
+                while True:
+                    self.start.wait(WAIT)
+                    told = world.columns(*given, COLUMNS, 1)
+                    self.end.wait(WAIT)
+                    del told
+            except threading.BrokenBarrierError:
+                return
 
 
 def in_turn(world, texts, hints):
@@ -120,7 +146,15 @@ def in_turn(world, texts, hints):
             began = time.process_time()
             ask()
             seconds.append((time.process_time() - began) / STRETCH * 1e6)
-    return tuple(sorted(it)[len(it) // 2] for it in (column, single))
+    return middle(column), middle(single), middle([a / b for a, b in zip(column, single)])
+
+
+def tell(what, seconds):
+    print(f"{what}: {seconds:.3f} s", flush=True)
+
+
+def middle(of):
+    return sorted(of)[len(of) // 2]
 
 
 def has(name):
@@ -144,7 +178,7 @@ def by_dask(path, answers):
         seconds = time.perf_counter() - began
         client.shutdown()
     compare("dask", told.tolist(), answers)
-    print(f"dask, 4 workers: {len(texts) / seconds:,.0f} rows a second")
+    tell("dask, 4 processes", seconds)
 
 
 def _part_of_frame(part):
@@ -170,26 +204,30 @@ def main():
     answers = Path(words[1]).read_text(encoding="utf-8").split("\n")[:-1]
     packages = {"list": "sys", "numpy": "numpy", "pandas": "pandas", "arrow": "pyarrow", "dask": "distributed"}
     with Database.load() as world:
-        column, single = in_turn(world, texts, hints)
-        print(f"column {column:.2f} us a row, single calls {single:.2f}: {column / single:.2f}")
         for engine in only.split(","):
             if not has(packages[engine]):
                 continue
             if engine == "dask":
                 by_dask(words[0], answers)
                 continue
+            if engine == "list":
+                column, single, ratio = in_turn(world, texts, hints)
+                print(f"column {column:.2f} us a row, single calls {single:.2f}: {ratio:.2f}")
+                tell("list, single calls", len(texts) * single / 1e6)
+            given = given_to(engine, texts, hints)
             for count in 1, threads:
-                seconds, told = told_by(engine, world, texts, hints, count)
-                compare(engine, told, answers)
-                print(f"{engine}, {count} threads: {len(texts) / seconds:,.0f} rows a second")
-        if "list" in only:
-            times = []
-            for _ in range(3):
-                began = time.perf_counter()
-                world.columns(texts, hints, COLUMNS, threads)
-                times.append((time.perf_counter() - began, by_processes(words[0], len(texts), threads)))
-            inside, beside = (sorted(it)[1] for it in zip(*times))
-            print(f"{threads} threads {inside:.2f} s, as many processes {beside:.2f} s: {inside / beside:.2f}")
+                told, seconds = timed(world, given, count)
+                compare(engine, lines_told(engine, told), answers)
+                if count == 1:
+                    tell(f"{engine}, 1 thread", seconds)
+            del told
+            beside = Processes(engine, texts, hints, threads) if engine in ("list", "arrow") else None
+            for _ in range(TURNS):
+                tell(f"{engine}, {threads} threads", timed(world, given, threads)[1])
+                if beside:
+                    tell(f"{engine}, {threads} processes", beside.seconds())
+            if beside:
+                beside.close()
     print(f"engines: {len(failed)} failed" if failed else f"engines: ok, {len(texts)} rows")
     return 1 if failed else 0
 

@@ -5,7 +5,7 @@ usage: pip wheel --no-deps bindings/python        or pip install bindings/python
        bindings/python/make_wheel.py [--source | --tables] FOLDER
 
 PHONE_LIBRARY names the shared library; else it is bindings/c/out/libphone.so, or the installed one that `pkg-config phonenumber-proved`
-tells. PHONE_LICENCES is a file of the licences of all that is linked, else the repository's own. A source distribution has the package, the
+tells. PHONE_LICENCES is a file of the licences of all that is linked, else they are those of an installed library, or the repository's own. A source distribution has the package, the
 tables and this file, and makes a wheel of the installed library. --tables makes a wheel of tables alone, the package
 phonenumber_proved_tables, of libphonenumber's version: where it is installed and later, its tables are taken in place of the package's own.
 PHONE_TABLES names the folder of the tables, as phone-renew writes them, else they are data's. The same files give the same bytes: the time of each is
@@ -31,7 +31,7 @@ NAME = "phonenumber_proved"
 # Where the tables and the licence are: in the repository, or in a source distribution.
 DATA = HERE / "data" if (HERE / "data").is_dir() else TOP / "data"
 OWN_LICENCE = HERE / "LICENSE" if (HERE / "LICENSE").is_file() else TOP / "LICENSE"
-TABLES = ["world.json", "world.compact", "short.json", "sms.json", "timezones.tsv", "areas.tsv", "carriers.tsv", "VERSION"]
+TABLES = ["world.json", "world.compact", "short.json", "sms.json", "alternates.json", "timezones.tsv", "areas.tsv", "carriers.tsv", "VERSION"]
 # Areas, carriers and names of regions by language, and the licence of the names.
 TABLES += sorted(str(it.relative_to(DATA)) for it in (DATA / "places").rglob("*") if it.is_file())
 CLASSIFIERS = """Development Status :: 4 - Beta
@@ -67,7 +67,10 @@ def platform(library):
     machine = MACHINES[int.from_bytes(library[18:20], "little")]
     needed, texts = texts_of(library)
     versions = [int(it) for it in re.findall(rb"GLIBC_2\.(\d+)", texts)]
-    return f"manylinux_2_{max([17, *versions])}_{machine}" if needed <= {b"libc.so.6"} else f"linux_{machine}"
+    newest = max([17, *versions])
+    # Version 2.17 has two names, of which older pips know the second alone.
+    older = f".manylinux2014_{machine}" if newest == 17 else ""
+    return f"manylinux_2_{newest}_{machine}{older}" if needed <= {b"libc.so.6"} else f"linux_{machine}"
 
 
 def about():
@@ -103,10 +106,19 @@ def library_file():
     return path
 
 
+def licences_file():
+    """The licences of all that is linked: those that are named, those that stand beside an installed library, or the own one."""
+    beside = library_file().parent
+    found = [it / "share" / "doc" / "phonenumber-proved" / "LICENSES" for it in (beside.parent, beside.parent.parent)]
+    return Path(os.environ.get("PHONE_LICENCES") or next((it for it in found if it.is_file()), OWN_LICENCE))
+
+
 def metadata(tag):
     """The files of a wheel that tell of it, by their names."""
-    wheel = f"Wheel-Version: 1.0\nGenerator: make_wheel\nRoot-Is-Purelib: false\nTag: {tag}\n"
-    licences = Path(os.environ.get("PHONE_LICENCES") or OWN_LICENCE)
+    python, abi, platforms = tag.split("-")
+    tags = "".join(f"Tag: {python}-{abi}-{it}\n" for it in platforms.split("."))
+    wheel = f"Wheel-Version: 1.0\nGenerator: make_wheel\nRoot-Is-Purelib: false\n{tags}"
+    licences = licences_file()
     return {
         "METADATA": about().encode(), "WHEEL": wheel.encode(), "LICENSE": OWN_LICENCE.read_bytes(),
         "LICENSES": licences.read_bytes(), "TABLE_LICENSE": (DATA / "LICENSE").read_bytes(),

@@ -9,13 +9,15 @@ from __future__ import annotations
 import ctypes
 import enum
 import functools
+import itertools
 import os
+import sys
 from array import array
 from bisect import bisect_right
+from collections import deque
 from concurrent.futures import ThreadPoolExecutor
 from typing import (
-    TYPE_CHECKING, Any, Callable, Dict, Iterator, List, NamedTuple, Optional, Sequence, Tuple,
-    Union,
+    TYPE_CHECKING, Any, Callable, Dict, Iterable, Iterator, List, Optional, Sequence, Tuple, Union,
 )
 
 from . import _arrow
@@ -63,8 +65,8 @@ class Column(enum.IntEnum):
 #: The columns that are told where no others are asked for.
 COLUMNS = (Column.E164, Column.KIND, Column.REGION, Column.VALIDITY, Column.REFUSAL)
 
-# So many rows are read by one call.
-_PIECE = 16384
+# So many rows are parsed by one call at most, and so many at least where there are as many.
+_PIECE, _LEAST = 8192, 256
 # So many bytes a row has in each column, with what texts seldom exceed.
 _WIDTHS = (28, 36, 32, 40, 2, 8, 1, 1, 2, 1, 1, 1, 1)
 # The statuses that a text has which is no number.
@@ -92,55 +94,79 @@ def columns_named(columns: Sequence[Union[Column, str]]) -> List[Column]:
         raise ValueError(f"no column is called {error.args[0].lower()!r}") from None
 
 
-class Piece(NamedTuple):
+class Piece:
     """What columns tell of some rows: their buffers, and where each stands."""
 
-    count: int
-    out: bytearray
-    places: Any
-    at: Dict[Column, int]
-    """The place of each column's first buffer."""
+    def __init__(self, count: int, out: bytearray, places: Any, at: Dict[Column, int]) -> None:
+        """Of so many rows; each column's first buffer has its place there."""
+        self.count, self._out, self._places, self._at = count, out, places, at
+        self._made: Dict[Column, List[Any]] = {}
 
     def buffer(self, column: Column, more: int = 0) -> memoryview:
         """A buffer of a column: the texts' bytes, `more` being 1, else what each column has."""
-        place = self.places[self.at[column] + more]
-        return memoryview(self.out)[place.start : place.end]
+        place = self._places[self._at[column] + more]
+        return memoryview(self._out)[place.start : place.end]
 
-    def there(self) -> Sequence[bool]:
-        """Which rows have a number."""
+    @functools.cached_property
+    def _there(self) -> bytes:
+        """Which rows have a number: 1, else 0."""
         bits = bytes(self.buffer(Column.IS_NUMBER))
         return flags_of(ctypes.cast(bits, ctypes.c_void_p).value or 0, 0, self.count)
 
-    def texts(self, column: Column) -> List[Optional[str]]:
-        """The texts of a column."""
+    @functools.cached_property
+    def _absent(self) -> List[int]:
+        """The rows that have none."""
+        return [row for row, it in enumerate(self._there) if not it]
+
+    def _but_absent(self, values: List[Any]) -> List[Any]:
+        for row in self._absent:
+            values[row] = None
+        return values
+
+    def _texts(self, column: Column) -> List[Optional[str]]:
         ends, data = self.buffer(column).cast("Q").tolist(), bytes(self.buffer(column, 1))
-        pairs = zip(ends, ends[1:], self.there())
+        pairs = zip(ends, itertools.islice(ends, 1, None))
         if data.isascii():
             text = data.decode()
-            return [text[a:b] if yes else None for a, b, yes in pairs]
-        return [data[a:b].decode() if yes else None for a, b, yes in pairs]
+            return self._but_absent([text[a:b] for a, b in pairs])
+        return self._but_absent([data[a:b].decode() for a, b in pairs])
+
+    def _values(self, column: Column) -> List[Any]:
+        if column <= Column.RFC3966:
+            return self._texts(column)
+        if column == Column.IS_NUMBER:
+            return list(map(bool, self._there))
+        data = self.buffer(column)
+        if column == Column.REFUSAL:
+            words = [it or None for it in _refusals()]
+            return [words[it] for it in data]
+        if column == Column.REGION:
+            regions = _Regions()
+            return self._but_absent([regions[it] for it in data.cast("H")])
+        if column in (Column.KIND, Column.SOURCE):
+            members: List[Any] = list(Kind if column == Column.KIND else Source)
+            return self._but_absent([members[it] for it in data])
+        if column == Column.VALIDITY:
+            return self._but_absent(list(map(bool, data)))
+        return self._but_absent(data.cast(_FORMATS[column]).tolist())
+
+    def make(self, columns: Sequence[Column]) -> None:
+        """Makes the lists of these columns, which are held from then on."""
+        self._made.update((it, self._values(it)) for it in columns)
 
     def values(self, column: Column) -> List[Any]:
         """The values of a column."""
-        if column <= Column.RFC3966:
-            return self.texts(column)
-        data, there = self.buffer(column), self.there()
-        if column == Column.IS_NUMBER:
-            return list(there)
-        if column == Column.REFUSAL:
-            words = _refusals()
-            return [words[it] if it else None for it in data]
-        if column == Column.REGION:
-            ids = data.tobytes().decode()
-            rows: Any = (ids[k : k + 2] for k in range(0, len(ids), 2))
-            return [it if yes and it != "\0\0" else None for it, yes in zip(rows, there)]
-        if column in (Column.KIND, Column.SOURCE):
-            members: List[Any] = list(Kind if column == Column.KIND else Source)
-            return [members[it] if yes else None for it, yes in zip(data, there)]
-        if column == Column.VALIDITY:
-            return [it == 1 if yes else None for it, yes in zip(data, there)]
-        wide = data.cast(_FORMATS[column])
-        return [it if yes else None for it, yes in zip(wide.tolist(), there)]
+        made = self._made.get(column)
+        return self._values(column) if made is None else made
+
+
+class _Regions(Dict[int, Optional[str]]):
+    """The ids of regions by their two bytes; no id where both are 0."""
+
+    def __missing__(self, letters: int) -> Optional[str]:
+        made = letters.to_bytes(2, sys.byteorder).decode() if letters else None
+        self[letters] = made
+        return made
 
 
 # How `struct` and Arrow name the types of numbers.
@@ -155,9 +181,19 @@ class Told:
     it. Texts are Arrow's large strings; kinds, sources and refusals are dictionaries of words.
     """
 
-    def __init__(self, columns: Sequence[Column], pieces: Sequence[Piece]) -> None:
-        """What `Database.columns` makes of texts."""
-        self.columns, self.pieces = list(columns), list(pieces)
+    def __init__(
+        self, columns: Sequence[Column], pieces: Iterable[Piece], listed: Sequence[Column] = ()
+    ) -> None:
+        """What `Database.columns` makes of texts.
+
+        The lists of some columns are made of each piece once it is there, while threads parse the
+        next.
+        """
+        self.columns = list(columns)
+        self.pieces: List[Piece] = []
+        for piece in pieces:
+            piece.make(listed)
+            self.pieces.append(piece)
 
     def __len__(self) -> int:
         return sum(it.count for it in self.pieces)
@@ -167,12 +203,13 @@ class Told:
         """What the columns are called."""
         return [it.name.lower() for it in self.columns]
 
+    def values(self, column: Column) -> List[Any]:
+        """A column as a list."""
+        return list(itertools.chain.from_iterable(it.values(column) for it in self.pieces))
+
     def lists(self) -> Dict[str, List[Any]]:
         """Each column as a list."""
-        return {
-            it.name.lower(): [value for piece in self.pieces for value in piece.values(it)]
-            for it in self.columns
-        }
+        return {it.name.lower(): self.values(it) for it in self.columns}
 
     def __arrow_c_schema__(self) -> Any:
         """The capsule of the table's type."""
@@ -237,16 +274,15 @@ class _Texts:
         elif isinstance(given, (str, bytes, bytearray, memoryview)):
             raise TypeError("a column of texts is wanted, not one text")
         else:
-            values = given.tolist() if hasattr(given, "tolist") else given
-            self._values = [None if _is_missing(it) else it for it in values]
-            self.starts += range(_PIECE, len(self._values), _PIECE)
+            self._values = list(given.tolist() if hasattr(given, "tolist") else given)
             self.starts.append(len(self._values))
         self.count = self.starts[-1]
 
     def chunk(self, start: int, count: int) -> Chunk:
         """So many texts from a row on, within what is one chunk."""
         if not self._chunks:
-            return chunk_of(self._values[start : start + count])
+            own = self._values[start : start + count]
+            return chunk_of([it if it is None or type(it) is str else _or_none(it) for it in own])
         place = bisect_right(self.starts, start) - 1
         return self._chunks[place].slice(start - self.starts[place], count)
 
@@ -262,9 +298,10 @@ def _is_arrow_backed(series: Any) -> bool:
     return is_arrow and hasattr(type(series.to_frame()), "__arrow_c_stream__")
 
 
-def _is_missing(it: Any) -> bool:
-    """Whether a value is none: `None`, a float that is no number, or pandas' `NA` or `NaT`."""
-    return it is None or isinstance(it, float) and it != it or type(it).__name__ in _MISSING
+def _or_none(it: Any) -> Any:
+    """A value; `None` where it is a float that is no number, or pandas' `NA` or `NaT`."""
+    is_missing = isinstance(it, float) and it != it or type(it).__name__ in _MISSING
+    return None if is_missing else it
 
 
 _MISSING = ("NAType", "NaTType")
@@ -295,21 +332,32 @@ def _read(
         room = wrote.value
 
 
-def _pieces(texts: _Texts, hints: Union[_Texts, bytes]) -> List[Tuple[int, int]]:
-    """Where pieces begin, and how many rows each has: within what is one chunk of both."""
+def _pieces(
+    texts: _Texts, hints: Union[_Texts, bytes], threads: int
+) -> List[Tuple[int, int]]:
+    """Where pieces begin, and how many rows each has: within what is one chunk of both.
+
+    Threads have as many rows each, so that they end together.
+    """
+    rounds = -(-texts.count // (threads * _PIECE)) or 1
+    size = max(_LEAST, -(-texts.count // (threads * rounds)))
     starts = {*texts.starts, *(hints.starts if isinstance(hints, _Texts) else ())}
-    ends = sorted({*starts, *range(0, texts.count, _PIECE)})
+    ends = sorted({*starts, *range(0, texts.count, size)})
     return [(a, b - a) for a, b in zip(ends, ends[1:])]
 
 
 Progress = Callable[[int, int], Any]
 
 
-def read_columns(
+def _parsed(
     world: "Database", texts: Any, hints: Any, columns: Sequence[Column], threads: Optional[int],
     rules: Rules, progress: Optional[Progress],
-) -> Told:
-    """These columns of the rows of texts."""
+) -> Iterator[Piece]:
+    """What these columns tell of the rows of texts, piece by piece."""
+    if threads is None:
+        threads = len(os.sched_getaffinity(0))
+    if threads < 1:
+        raise ValueError("at least one thread is needed")
     own = _Texts(texts)
     under: Union[_Texts, bytes]
     if hints is None or isinstance(hints, (str, bytes)):
@@ -328,30 +376,25 @@ def read_columns(
         out, places = _read(world, numbers, own.chunk(*piece), chunk, rules)
         return Piece(piece[1], out, places, at)
 
-    return Told(columns, list(_all(read, _pieces(own, under), own.count, threads, progress)))
+    return _all(read, _pieces(own, under, threads), own.count, threads, progress)
 
 
 def _all(
     read: Callable[[Tuple[int, int]], Piece], pieces: Sequence[Tuple[int, int]], count: int,
-    threads: Optional[int], progress: Optional[Progress],
+    threads: int, progress: Optional[Progress],
 ) -> Iterator[Piece]:
     """All pieces, in their order, parsed by so many threads; after each `progress` is called."""
-    if threads is None:
-        threads = len(os.sched_getaffinity(0))
-    if threads < 1:
-        raise ValueError("at least one thread is needed")
-    threads = min(threads, len(pieces))
-    done = 0
+    threads, done = min(threads, len(pieces)), 0
     if threads <= 1:
         for piece in map(read, pieces):
             done += piece.count
             yield _after(piece, done, count, progress)
         return
     with ThreadPoolExecutor(threads) as pool:
-        waiting = [pool.submit(read, it) for it in pieces]
+        waiting = deque(pool.submit(read, it) for it in pieces)
         try:
-            for each in waiting:
-                piece = each.result()
+            while waiting:
+                piece = waiting.popleft().result()
                 done += piece.count
                 yield _after(piece, done, count, progress)
         finally:
@@ -365,15 +408,28 @@ def _after(piece: Piece, done: int, count: int, progress: Optional[Progress]) ->
     return piece
 
 
-def shaped(told: Told, texts: Any) -> Any:
-    """What is told, in the form of the texts."""
+def columns_of(
+    world: "Database", texts: Any, hints: Any, columns: Sequence[Column], threads: Optional[int],
+    rules: Rules, progress: Optional[Progress],
+) -> Any:
+    """These columns of the rows of texts, in the form of the texts.
+
+    Lists are made of each piece by the caller's thread, while the others parse the next.
+    """
+    pieces = _parsed(world, texts, hints, columns, threads, rules, progress)
+    as_texts = [it for it in columns if it <= Column.RFC3966]
     if _is_pandas(texts):
         from .frames import frame_of
 
-        return frame_of(told, texts.index)
+        return frame_of(Told(columns, pieces, as_texts), texts.index)
     if type(texts).__module__.partition(".")[0] == "numpy":
         from .frames import arrays_of
 
-        return arrays_of(told)
-    return told if _arrow.speaks_arrow(texts) else told.lists()
-
+        return arrays_of(Told(columns, pieces, as_texts))
+    if _arrow.speaks_arrow(texts):
+        return Told(columns, pieces)
+    lists: Dict[Column, List[Any]] = {it: [] for it in columns}
+    for piece in pieces:
+        for it, values in lists.items():
+            values += piece.values(it)
+    return {it.name.lower(): values for it, values in lists.items()}

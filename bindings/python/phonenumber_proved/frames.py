@@ -2,7 +2,7 @@
 
 from __future__ import annotations
 
-from typing import Any, Dict, List, Sequence
+from typing import Any, Dict, Sequence
 
 import numpy
 
@@ -34,17 +34,13 @@ def _there(told: Told) -> Any:
     return _joined([flags(it) for it in told.pieces], "?")
 
 
-def _texts(told: Told, column: Column) -> List[Any]:
-    return [text for piece in told.pieces for text in piece.texts(column)]
-
-
 def arrays_of(told: Told) -> Dict[str, Any]:
     """Each column as an array: texts as objects; what has a fixed width is masked where it is none."""
     there, arrays = _there(told), {}
     for it in told.columns:
         if it <= Column.RFC3966:
             made = numpy.empty(len(there), object)
-            made[:] = _texts(told, it)
+            made[:] = told.values(it)
         elif it == Column.IS_NUMBER:
             made = there
         else:
@@ -71,7 +67,7 @@ def frame_of(told: Told, index: Any) -> Any:
 def _column(told: Told, column: Column, there: Any, pandas: Any) -> Any:
     """A column as pandas has it: what is none is `NA`, words are categories."""
     if column <= Column.RFC3966:
-        return pandas.array(_texts(told, column), dtype="string")
+        return pandas.array(told.values(column), dtype="string")
     if column == Column.IS_NUMBER:
         return there
     data = _data(told, column)

@@ -5,7 +5,7 @@ from __future__ import annotations
 import ctypes
 import itertools
 from array import array
-from typing import Any, List, NamedTuple, Optional, Sequence, Union
+from typing import Any, Iterable, List, NamedTuple, Optional, Sequence, Tuple, Union
 
 from ._calls import NarrowTexts, Text, Texts, bytes_of
 
@@ -15,6 +15,7 @@ _AT_NOTHING = ctypes.addressof(_NOTHING)
 
 _DIGITS = bytes([0x30] + [0x31] * 255)
 """A byte 0 as the digit 0, another as 1."""
+_FLAGS = bytes.maketrans(b"01", b"\0\1")
 
 
 def bits_of(flags: bytes) -> bytearray:
@@ -23,14 +24,17 @@ def bits_of(flags: bytes) -> bytearray:
     return bytearray(int(digits or b"0", 2).to_bytes((len(flags) + 7) // 8, "little"))
 
 
-def flags_of(bits: int, first: int, count: int) -> Sequence[bool]:
-    """The flags of a bitmap at an address, so many from a place on; all are set where it is 0."""
+def flags_of(bits: int, first: int, count: int) -> bytes:
+    """The flags of a bitmap at an address, so many from a place on, a byte each: 1 where it is set.
+
+    All are set where the address is 0.
+    """
     if not bits:
-        return [True] * count
+        return b"\1" * count
     at, skipped = bits + first // 8, first % 8
     number = int.from_bytes(ctypes.string_at(at, (skipped + count + 7) // 8), "little") >> skipped
     digits = bin(number & ((1 << count) - 1) | 1 << count)[:2:-1]
-    return [it == "1" for it in digits]
+    return digits.encode().translate(_FLAGS)
 
 
 def _address(buffer: Any) -> int:
@@ -102,12 +106,30 @@ def one_hint(hint: bytes, width: int) -> Union[Texts, NarrowTexts]:
     return made
 
 
+def _ascii(values: Sequence[Any]) -> Optional[bytes]:
+    """The bytes of texts, one behind the other; `None` where one isn't a `str` of ASCII alone."""
+    try:
+        joined = "".join(values)
+    except TypeError:
+        return None
+    return joined.encode() if joined.isascii() else None
+
+
+def _joined(values: Sequence[Text]) -> Tuple[bytes, Iterable[int]]:
+    """The bytes of texts, one behind the other, and how many each has."""
+    data = _ascii(values)
+    if data is not None:
+        return data, map(str.__len__, values)  # type: ignore[arg-type]
+    encoded = list(map(bytes_of, values))
+    return b"".join(encoded), map(len, encoded)
+
+
 def chunk_of(values: Sequence[Optional[Text]]) -> Chunk:
     """The texts of values, of which `None` is none."""
-    encoded = [b"" if it is None else bytes_of(it) for it in values]
-    offsets = array("Q", itertools.accumulate(map(len, encoded), initial=0))
-    data, bits = bytearray(b"".join(encoded)), bytearray()
-    if None in values:
-        bits = bits_of(bytes([it is not None for it in values]))
+    there, bits, texts = bytes([it is not None for it in values]), bytearray(), values
+    if 0 in there:
+        bits, texts = bits_of(there), ["" if it is None else it for it in values]
+    joined, lens = _joined(texts)  # type: ignore[arg-type]
+    offsets, data = array("Q", list(itertools.accumulate(lens, initial=0))), bytearray(joined)
     keep = (offsets, data, bits)
     return Chunk(8, offsets.buffer_info()[0], _address(data), _address(bits), 0, len(values), keep)

@@ -1,7 +1,7 @@
 //! The report on lines with their hints: lines TABLE [ROUNDS [RULES]] <LINES. A line is a region, `-` for none, a tab, and the
 //! text. RULES is `library`, or `crate`, as without it. ROUNDS times over the lines are timed after the report is written: ns a
 //! line on standard error.
-use phonenumber_proved::{Database, Rules, WORLD_PATH};
+use phonenumber_proved::{Database, Region, Rules, WORLD_PATH};
 use std::io::{Read, Write};
 use std::time::Instant;
 
@@ -19,7 +19,10 @@ fn main() -> Result<(), Box<dyn std::error::Error>> {
     let mut lines = Vec::new();
     for line in text.split(|&b| b == b'\n').filter(|line| !line.is_empty()) {
         let tab = line.iter().position(|&b| b == b'\t').ok_or("a line without a tab")?;
-        let hint = Some(std::str::from_utf8(&line[..tab])?).filter(|&hint| hint != "-");
+        let hint = match std::str::from_utf8(&line[..tab])? {
+            "-" => None,
+            id => Some(id.parse::<Region>()?),
+        };
         lines.push((hint, &line[tab + 1..]));
     }
     let mut out = std::io::BufWriter::new(std::io::stdout().lock());

@@ -1,6 +1,7 @@
 //! How texts go to the calls and come back.
 use crate::error::Error;
 use crate::ffi;
+use crate::region::Region;
 
 /// What a call writes into a buffer, which is made longer where it is too short.
 pub(crate) fn items_of<T: Copy + Default>(
@@ -36,11 +37,7 @@ pub(crate) fn check(status: u32) -> Result<(), Error> {
     if status == ffi::OK { Ok(()) } else { Err(Error::of(status)) }
 }
 
-/// The bytes of a default region. The empty text is no region's id, though for the calls it means none.
-pub(crate) fn hint_of(hint: Option<&str>) -> Result<&[u8], Error> {
-    match hint {
-        Some("") => Err(Error::NoRegion),
-        Some(id) => Ok(id.as_bytes()),
-        None => Ok(b""),
-    }
+/// The letters of a default region; the empty text means none.
+pub(crate) fn hint_of(hint: impl Into<Option<Region>>) -> &'static [u8] {
+    hint.into().map_or("", Region::as_str).as_bytes()
 }

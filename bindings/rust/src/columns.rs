@@ -154,6 +154,7 @@ impl<T: AsRef<[u8]>> FromIterator<Option<T>> for TextsBuf {
 
 /// An answer on each text, by its number in `phone.h`.
 #[derive(Clone, Copy, Debug, PartialEq, Eq, Hash, PartialOrd, Ord)]
+#[non_exhaustive]
 pub enum Column {
     /// Its E.164 text.
     E164,

@@ -4,6 +4,7 @@ use crate::error::Error;
 use crate::ffi;
 use crate::number::{Mode, PhoneNumber, TYPES, Type};
 use crate::records::Records;
+use crate::region::Region;
 use crate::typing::Typing;
 use std::fmt;
 use std::path::Path;
@@ -11,6 +12,7 @@ use std::sync::{Mutex, OnceLock, PoisonError};
 
 /// By whose rules a text is parsed and a number described.
 #[derive(Clone, Copy, Debug, Default, PartialEq, Eq, Hash, PartialOrd, Ord)]
+#[non_exhaustive]
 pub enum Rules {
     /// By those of libphonenumber.
     #[default]
@@ -22,17 +24,17 @@ pub enum Rules {
 /// A database: the metadata of numbering plans. Any number of threads may use it at once: no call waits for
 /// another. A clone shares them; they are freed with the last of the clones.
 ///
-/// `hint` is the default region: the id of the region in which a text was written, as `NZ`;
-/// `Error::NoRegion` where it is none. Calls without rules follow libphonenumber's.
+/// `hint` is the default region: the one in which a text was written, `Region::NZ` or `None`. Calls without rules follow
+/// libphonenumber's.
 ///
 /// ```
-/// use phonenumber_proved::{Database, Prefixes, ShortNumbers, Typing};
+/// use phonenumber_proved::{Database, Prefixes, Region, ShortNumbers, Typing};
 /// fn any_thread<T: Send + Sync>() {}
 /// any_thread::<(Database, Prefixes, ShortNumbers, Typing<'_>)>();
 /// let (world, text) = (Database::world()?, "03-331 6005");
 /// let other = world.clone();
-/// let read = std::thread::spawn(move || other.parse(Some("NZ"), text));
-/// assert_eq!(world.parse(Some("NZ"), text)?, read.join().unwrap()?);
+/// let read = std::thread::spawn(move || other.parse(Region::NZ, text));
+/// assert_eq!(world.parse(Region::NZ, text)?, read.join().unwrap()?);
 /// # Ok::<(), phonenumber_proved::Error>(())
 /// ```
 #[derive(Clone)]
@@ -66,9 +68,9 @@ impl Database {
     /// The library's own metadata, of all regions.
     ///
     /// ```
-    /// use phonenumber_proved::Database;
+    /// use phonenumber_proved::{Database, Region};
     /// let world = Database::world()?;
-    /// assert!(world.is_valid(&world.parse(Some("NZ"), "03-331 6005")?)?);
+    /// assert!(world.is_valid(&world.parse(Region::NZ, "03-331 6005")?)?);
     /// # Ok::<(), phonenumber_proved::Error>(())
     /// ```
     pub fn world() -> Result<Database, Error> {
@@ -80,10 +82,10 @@ impl Database {
     /// the one that the environment variable `PHONE_TABLES` names, else `../share/phonenumber-proved` beside this program's folder.
     ///
     /// ```
-    /// use phonenumber_proved::Database;
+    /// use phonenumber_proved::{Database, Region};
     /// let (world, version) = Database::newest(None)?;
     /// assert!(version.starts_with("libphonenumber "));
-    /// assert!(world.is_valid(&world.parse(Some("NZ"), "03-331 6005")?)?);
+    /// assert!(world.is_valid(&world.parse(Region::NZ, "03-331 6005")?)?);
     /// # Ok::<(), phonenumber_proved::Error>(())
     /// ```
     pub fn newest(folder: Option<&Path>) -> Result<(Database, String), Error> {
@@ -129,15 +131,14 @@ impl Database {
     /// use phonenumber_proved::{Database, Error};
     /// let world = Database::world()?;
     /// assert_eq!(world.parse(None, "call me").unwrap_err(), Error::NoNumber);
-    /// assert_eq!(world.parse(Some("nz"), "03-331 6005").unwrap_err(), Error::NoRegion);
     /// # Ok::<(), Error>(())
     /// ```
-    pub fn parse(&self, hint: Option<&str>, text: impl AsRef<str>) -> Result<PhoneNumber, Error> {
+    pub fn parse(&self, hint: impl Into<Option<Region>>, text: impl AsRef<str>) -> Result<PhoneNumber, Error> {
         self.by(Rules::Library).parse(hint, text)
     }
 
     /// The report line of a line, without a line feed.
-    pub fn report(&self, hint: Option<&str>, line: impl AsRef<[u8]>) -> Result<String, Error> {
+    pub fn report(&self, hint: impl Into<Option<Region>>, line: impl AsRef<[u8]>) -> Result<String, Error> {
         self.by(Rules::Library).report(hint, line)
     }
 
@@ -146,8 +147,8 @@ impl Database {
         self.by(Rules::Library).number_type(number)
     }
 
-    /// The id of a number's region, as `NZ`.
-    pub fn region(&self, number: &PhoneNumber) -> Result<Option<String>, Error> {
+    /// A number's region.
+    pub fn region(&self, number: &PhoneNumber) -> Result<Option<Region>, Error> {
         self.by(Rules::Library).region(number)
     }
 
@@ -166,14 +167,14 @@ impl Database {
     /// digits without a plus sign are dialled.
     ///
     /// ```
-    /// use phonenumber_proved::Database;
+    /// use phonenumber_proved::{Database, Region};
     /// let world = Database::world()?;
-    /// assert_eq!(world.typed(Some("NZ"), "0333160")?, "03 331 60");
+    /// assert_eq!(world.typed(Region::NZ, "0333160")?, "03 331 60");
     /// assert_eq!(world.typed(None, "+643331")?, "+64 3 331");
     /// # Ok::<(), phonenumber_proved::Error>(())
     /// ```
-    pub fn typed(&self, hint: Option<&str>, keys: impl AsRef<str>) -> Result<String, Error> {
-        let (hint, keys) = (hint_of(hint)?, keys.as_ref());
+    pub fn typed(&self, hint: impl Into<Option<Region>>, keys: impl AsRef<str>) -> Result<String, Error> {
+        let (hint, keys) = (hint_of(hint), keys.as_ref());
         text_of(64, |out, len, wrote| {
             // SAFETY: as in `By::parse`.
             self.by(Rules::Library).records().with(|handle| unsafe {
@@ -184,8 +185,8 @@ impl Database {
 
     /// After how many characters of what `typed` shows of these keys the n-th key stands, counted from 1:
     /// 0 for no key, all characters from the last key on.
-    pub fn caret(&self, hint: Option<&str>, keys: impl AsRef<str>, n: usize) -> Result<usize, Error> {
-        let (hint, keys, mut told) = (hint_of(hint)?, keys.as_ref(), 0);
+    pub fn caret(&self, hint: impl Into<Option<Region>>, keys: impl AsRef<str>, n: usize) -> Result<usize, Error> {
+        let (hint, keys, mut told) = (hint_of(hint), keys.as_ref(), 0);
         // SAFETY: as in `By::parse`.
         check(self.by(Rules::Library).records().with(|handle| unsafe {
             ffi::phone_typing_caret(handle, hint.as_ptr(), hint.len(), keys.as_ptr(), keys.len(), n, &mut told)
@@ -194,7 +195,7 @@ impl Database {
     }
 
     /// A field in which nothing is typed yet.
-    pub fn typing(&self, hint: Option<&str>) -> Result<Typing<'_>, Error> {
+    pub fn typing(&self, hint: impl Into<Option<Region>>) -> Result<Typing<'_>, Error> {
         Typing::new(self, hint)
     }
 }
@@ -216,9 +217,9 @@ impl<'d> By<'d> {
         self.rules
     }
 
-    /// The number that a text is. `hint` is the default region: the id of the region in which it was written.
-    pub fn parse(&self, hint: Option<&str>, text: impl AsRef<str>) -> Result<PhoneNumber, Error> {
-        let (hint, text) = (hint_of(hint)?, text.as_ref());
+    /// The number that a text is. `hint` is the default region: the one in which it was written.
+    pub fn parse(&self, hint: impl Into<Option<Region>>, text: impl AsRef<str>) -> Result<PhoneNumber, Error> {
+        let (hint, text) = (hint_of(hint), text.as_ref());
         let mut number = ffi::Number::default();
         let texts = bytes_of(64, |out, len, wrote| {
             let (at, hint_len) = (text.as_ptr(), hint.len());
@@ -231,8 +232,8 @@ impl<'d> By<'d> {
     }
 
     /// The report line of a line, without a line feed.
-    pub fn report(&self, hint: Option<&str>, line: impl AsRef<[u8]>) -> Result<String, Error> {
-        let (hint, line) = (hint_of(hint)?, line.as_ref());
+    pub fn report(&self, hint: impl Into<Option<Region>>, line: impl AsRef<[u8]>) -> Result<String, Error> {
+        let (hint, line) = (hint_of(hint), line.as_ref());
         text_of(512, |out, len, wrote| {
             // SAFETY: as in `parse`.
             self.records().with(|handle| unsafe {
@@ -249,14 +250,14 @@ impl<'d> By<'d> {
         TYPES.get(told as usize).copied().ok_or(Error::Other(told))
     }
 
-    /// The id of a number's region, as `NZ`.
-    pub fn region(&self, number: &PhoneNumber) -> Result<Option<String>, Error> {
+    /// A number's region.
+    pub fn region(&self, number: &PhoneNumber) -> Result<Option<Region>, Error> {
         let number = number.plain();
         let id = text_of(8, |out, len, wrote| {
             // SAFETY: as in `parse`.
             self.records().with(|handle| unsafe { ffi::phone_region(handle, &number, out, len, wrote) })
         })?;
-        Ok(Some(id).filter(|id| !id.is_empty()))
+        Ok(Region::of(&id))
     }
 
     /// Whether such numbers are given out.

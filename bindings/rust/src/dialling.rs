@@ -7,6 +7,7 @@ use crate::ffi;
 use crate::found::example_of;
 use crate::number::{Mode, PhoneNumber};
 use crate::records::Records;
+use crate::region::Region;
 use crate::short::{COSTS, Cost, ShortNumbers, SmsServices};
 use std::fmt::{self, Write};
 
@@ -27,11 +28,11 @@ pub struct Layout<'a> {
 /// them, as with a [`Database`].
 ///
 /// ```
-/// use phonenumber_proved::{Database, Layout, Layouts, Mode};
+/// use phonenumber_proved::{Database, Layout, Layouts, Mode, Region};
 /// let rule = Some("($NP$FG)");
 /// let own = Layouts::of(&[Layout { pattern: r"(\d)(\d+)", format: "$1 $2", national_prefix_rule: rule, ..Layout::default() }])?;
 /// let world = Database::world()?;
-/// let number = world.parse(Some("NZ"), "03-331 6005")?;
+/// let number = world.parse(Region::NZ, "03-331 6005")?;
 /// assert_eq!(world.format_by(&own, Mode::National, &number)?, "(03) 3316005");
 /// assert_eq!(world.format_by(&own, Mode::International, &number)?, "+64 3 3316005");
 /// # Ok::<(), phonenumber_proved::Error>(())
@@ -79,7 +80,7 @@ fn push_field(out: &mut String, name: &str, value: &str) {
 }
 
 /// Writes a text of JSON.
-fn push_text(out: &mut String, text: &str) {
+pub(crate) fn push_text(out: &mut String, text: &str) {
     out.push('"');
     for c in text.chars() {
         match c {
@@ -94,19 +95,22 @@ fn push_text(out: &mut String, text: &str) {
 
 /// What is known of a number as a short number of any region of its calling code.
 #[derive(Clone, Copy, Debug, PartialEq, Eq, Hash)]
+#[non_exhaustive]
 pub struct FactsAnywhere {
     /// Whether the count of its digits is possible in some region.
     pub is_possible: bool,
     /// Whether it is a short number of some region.
     pub is_valid: bool,
-    /// The first that it costs in some region of premium rate, an unknown cost, standard rate, and nothing.
+    /// The first that it costs, in the regions that know it, of premium rate, an unknown cost, standard rate, and nothing.
     pub cost: Cost,
+    /// The same in all of them, as libphonenumber has it: unknown where one of them doesn't know it.
+    pub library_cost: Cost,
     /// Whether only some carriers connect it, in the first region whose short number it is.
     pub is_carrier_specific: bool,
 }
 
 impl Database {
-    fn dialled(&self, call: impl FnOnce(&mut ffi::Handle) -> u32) -> u32 {
+    pub(crate) fn dialled(&self, call: impl FnOnce(&mut ffi::Handle) -> u32) -> u32 {
         self.by(Rules::Library).records().with(call)
     }
 
@@ -114,9 +118,9 @@ impl Database {
     /// value is 0. One whose calling code the database lacks is written in E.164, in the other modes as its digits.
     ///
     /// ```
-    /// use phonenumber_proved::{Database, Mode};
+    /// use phonenumber_proved::{Database, Mode, Region};
     /// let world = Database::world()?;
-    /// let number = world.parse(Some("IT"), "000")?;
+    /// let number = world.parse(Region::IT, "000")?;
     /// assert_eq!(world.format_read(Mode::E164, Some("000"), &number)?, "+39000");
     /// assert_eq!(world.format_read(Mode::National, Some("000"), &number)?, "000");
     /// # Ok::<(), phonenumber_proved::Error>(())
@@ -132,21 +136,22 @@ impl Database {
         })
     }
 
-    /// What a mobile phone dials to reach a number where a region's id is this, or `001` for the whole world; empty where
-    /// it can't be dialled there. With symbols the text is laid out.
+    /// What a mobile phone dials to reach a number, as libphonenumber has it: like [`Database::mobile_text`], but a number that
+    /// can't be dialled from abroad only in the main region of its calling code. The text that it was parsed from stands for
+    /// one whose code the database lacks, or whose value is 0.
     ///
     /// ```
-    /// use phonenumber_proved::Database;
-    /// let world = Database::world()?;
-    /// let number = world.parse(Some("NZ"), "03-331 6005")?;
-    /// assert_eq!(world.mobile_text("NZ", true, None, &number)?, "03 331 6005");
-    /// assert_eq!(world.mobile_text("US", false, None, &number)?, "+6433316005");
+    /// use phonenumber_proved::{Database, PhoneNumber};
+    /// let (world, number) = (Database::world()?, PhoneNumber::from_parts(1, 911, 0)?);
+    /// let told = ["US", "CA"].map(|id| world.library_mobile_text(id, true, None, &number).unwrap());
+    /// assert_eq!(told, ["911", ""]);
     /// # Ok::<(), phonenumber_proved::Error>(())
     /// ```
-    pub fn mobile_text(
-        &self, id: &str, with_symbols: bool, raw: Option<&str>, number: &PhoneNumber,
+    pub fn library_mobile_text(
+        &self, id: impl AsRef<str>, with_symbols: bool, raw: Option<&str>, number: &PhoneNumber,
     ) -> Result<String, Error> {
-        let ((number, texts), raw, symbols) = (number.to_ffi(), raw.unwrap_or(""), u8::from(with_symbols));
+        let ((number, texts), id) = (number.to_ffi(), id.as_ref());
+        let (raw, symbols) = (raw.unwrap_or(""), u8::from(with_symbols));
         text_of(64, |out, len, wrote| {
             let (bytes, bytes_len, region, at) = (texts.as_ptr(), texts.len(), id.as_ptr(), raw.as_ptr());
             // SAFETY: as in `format_read`.
@@ -161,18 +166,18 @@ impl Database {
     /// How a number is dialled from a region, as libphonenumber writes it; from none as international text.
     ///
     /// ```
-    /// use phonenumber_proved::Database;
+    /// use phonenumber_proved::{Database, Region};
     /// let world = Database::world()?;
-    /// let number = world.parse(Some("US"), "(650) 253-0000")?;
-    /// assert_eq!(world.text_from(Some("CA"), None, &number)?, "1 (650) 253-0000");
-    /// assert_eq!(world.text_from(Some("NZ"), None, &number)?, "00 1 650-253-0000");
+    /// let number = world.parse(Region::US, "(650) 253-0000")?;
+    /// assert_eq!(world.text_from(Region::CA, None, &number)?, "1 (650) 253-0000");
+    /// assert_eq!(world.text_from(Region::NZ, None, &number)?, "00 1 650-253-0000");
     /// assert_eq!(world.text_from(None, None, &number)?, "+1 650-253-0000");
     /// # Ok::<(), phonenumber_proved::Error>(())
     /// ```
     pub fn text_from(
-        &self, region: Option<&str>, raw: Option<&str>, number: &PhoneNumber,
+        &self, region: impl Into<Option<Region>>, raw: Option<&str>, number: &PhoneNumber,
     ) -> Result<String, Error> {
-        let ((number, texts), from, raw) = (number.to_ffi(), hint_of(region)?, raw.unwrap_or(""));
+        let ((number, texts), from, raw) = (number.to_ffi(), hint_of(region), raw.unwrap_or(""));
         text_of(64, |out, len, wrote| {
             let (bytes, bytes_len, at) = (texts.as_ptr(), texts.len(), raw.as_ptr());
             // SAFETY: as in `format_read`.
@@ -188,18 +193,18 @@ impl Database {
     /// none is added; without that text as national text. The region is where it would be dialled from.
     ///
     /// ```
-    /// use phonenumber_proved::Database;
+    /// use phonenumber_proved::{Database, Region};
     /// let (world, text) = (Database::world()?, "03-331-6005");
-    /// let number = world.parse(Some("NZ"), text)?;
-    /// assert_eq!(world.original_text(Some("NZ"), Some(text), &number)?, "03 331 6005");
+    /// let number = world.parse(Region::NZ, text)?;
+    /// assert_eq!(world.original_text(Region::NZ, Some(text), &number)?, "03 331 6005");
     /// let (text, number) = ("+64 33316005", world.parse(None, "+64 33316005")?);
     /// assert_eq!(world.original_text(None, Some(text), &number)?, "+64 3 331 6005");
     /// # Ok::<(), phonenumber_proved::Error>(())
     /// ```
     pub fn original_text(
-        &self, region: Option<&str>, raw: Option<&str>, number: &PhoneNumber,
+        &self, region: impl Into<Option<Region>>, raw: Option<&str>, number: &PhoneNumber,
     ) -> Result<String, Error> {
-        let ((number, texts), from, raw) = (number.to_ffi(), hint_of(region)?, raw.unwrap_or(""));
+        let ((number, texts), from, raw) = (number.to_ffi(), hint_of(region), raw.unwrap_or(""));
         text_of(64, |out, len, wrote| {
             let (bytes, bytes_len, at) = (texts.as_ptr(), texts.len(), raw.as_ptr());
             // SAFETY: as in `format_read`.
@@ -211,8 +216,8 @@ impl Database {
         })
     }
 
-    /// The text of a number in a mode by a program's own layouts.
-    pub fn format_by(&self, layouts: &Layouts, mode: Mode, number: &PhoneNumber) -> Result<String, Error> {
+    /// The text of a number in a mode by a program's own layouts, as libphonenumber has it: E.164 text is laid out as well.
+    pub fn library_format_by(&self, layouts: &Layouts, mode: Mode, number: &PhoneNumber) -> Result<String, Error> {
         let (number, texts) = number.to_ffi();
         text_of(64, |out, len, wrote| {
             let (bytes, bytes_len) = (texts.as_ptr(), texts.len());
@@ -228,14 +233,15 @@ impl Database {
     /// What is known of a number as a short number, where its region isn't told.
     ///
     /// ```
-    /// use phonenumber_proved::{Cost, Database, PhoneNumber, SHORT, ShortNumbers};
+    /// use phonenumber_proved::{Cost, Database, PhoneNumber, Region, SHORT, ShortNumbers};
     /// let (world, shorts) = (Database::world()?, ShortNumbers::from_json(SHORT)?);
     /// let facts = world.short_anywhere(&shorts, &PhoneNumber::from_parts(64, 111, 0)?)?;
     /// assert!(facts.is_valid && facts.cost == Cost::TollFree && !facts.is_carrier_specific);
-    /// assert_eq!(shorts.example("FR", None)?.as_deref(), Some("15"));
+    /// assert_eq!(shorts.example(Region::FR, None)?.as_deref(), Some("15"));
     /// # Ok::<(), phonenumber_proved::Error>(())
     /// ```
     pub fn short_anywhere(&self, shorts: &ShortNumbers, number: &PhoneNumber) -> Result<FactsAnywhere, Error> {
+        let cost = self.known_cost(shorts, number)?;
         let (number, mut facts) = (number.plain(), ffi::FactsAnywhere::default());
         check(self.dialled(|handle| {
             // SAFETY: as in `format_by`.
@@ -244,7 +250,8 @@ impl Database {
         Ok(FactsAnywhere {
             is_possible: facts.is_possible == 1,
             is_valid: facts.is_valid == 1,
-            cost: COSTS.get(facts.cost as usize).copied().ok_or(Error::Other(facts.cost))?,
+            cost,
+            library_cost: COSTS.get(facts.cost as usize).copied().ok_or(Error::Other(facts.cost))?,
             is_carrier_specific: facts.is_carrier_specific == 1,
         })
     }
@@ -252,15 +259,15 @@ impl Database {
     /// Whether a number is an SMS service of a region, a short number that messages are sent to.
     ///
     /// ```
-    /// use phonenumber_proved::{Database, PhoneNumber, SMS, SmsServices};
+    /// use phonenumber_proved::{Database, PhoneNumber, Region, SMS, SmsServices};
     /// let (world, services) = (Database::world()?, SmsServices::from_json(SMS)?);
     /// let told = [22000, 911].map(|digits| {
-    ///     world.is_sms_service(&services, "US", &PhoneNumber::from_parts(1, digits, 0).unwrap())
+    ///     world.is_sms_service(&services, Region::US, &PhoneNumber::from_parts(1, digits, 0).unwrap())
     /// });
     /// assert_eq!(told, [Ok(true), Ok(false)]);
     /// # Ok::<(), phonenumber_proved::Error>(())
     /// ```
-    pub fn is_sms_service(&self, services: &SmsServices, region: &str, number: &PhoneNumber) -> Result<bool, Error> {
+    pub fn is_sms_service(&self, services: &SmsServices, region: Region, number: &PhoneNumber) -> Result<bool, Error> {
         let (number, mut told) = (number.plain(), 0);
         check(self.dialled(|handle| {
             // SAFETY: as in `format_by`.
@@ -291,13 +298,13 @@ impl Database {
     /// A number of a region that isn't valid, for tests; none where there is no such.
     ///
     /// ```
-    /// use phonenumber_proved::Database;
+    /// use phonenumber_proved::{Database, Region};
     /// let world = Database::world()?;
-    /// let number = world.invalid_example("NZ")?.unwrap();
+    /// let number = world.invalid_example(Region::NZ)?.unwrap();
     /// assert!(!world.is_valid(&number)?);
     /// # Ok::<(), phonenumber_proved::Error>(())
     /// ```
-    pub fn invalid_example(&self, region: &str) -> Result<Option<PhoneNumber>, Error> {
+    pub fn invalid_example(&self, region: Region) -> Result<Option<PhoneNumber>, Error> {
         example_of(|number, out, len, wrote| {
             let (id, id_len) = (region.as_ptr(), region.len());
             // SAFETY: as in `format_read`.
@@ -308,7 +315,7 @@ impl Database {
 
 impl ShortNumbers {
     /// The example of a region's short numbers, of those of a cost or of all; none where the metadata give none.
-    pub fn example(&self, region: &str, cost: Option<Cost>) -> Result<Option<String>, Error> {
+    pub fn example(&self, region: Region, cost: Option<Cost>) -> Result<Option<String>, Error> {
         let cost = cost.map_or(ffi::COST_ANY, |cost| cost as u32);
         let found = text_of(32, |out, len, wrote| {
             // SAFETY: as in `format_read`.

@@ -49,6 +49,7 @@ pub enum Error {
 
 /// What is wrong with a line of a table of prefixes. Of several the first one here is named.
 #[derive(Clone, Copy, Debug, PartialEq, Eq, Hash, PartialOrd, Ord)]
+#[non_exhaustive]
 pub enum LineFault {
     /// The line is empty, or a carriage return alone.
     Empty,

@@ -1,13 +1,13 @@
 //! Phone numbers, parsed and formatted as crates/phone_c proves it.
 //!
 //! ```
-//! use phonenumber_proved::{Database, Mode, Type};
+//! use phonenumber_proved::{Database, Mode, Region, Type};
 //! let world = Database::world()?;
-//! let number = world.parse(Some("NZ"), "03-331 6005 ext. 12")?;
+//! let number = world.parse(Region::NZ, "03-331 6005 ext. 12")?;
 //! assert_eq!(number.to_string(), "+6433316005");
 //! assert_eq!(world.format(&number).mode(Mode::National).to_string(), "03 331 6005 ext. 12");
 //! assert_eq!(world.number_type(&number)?, Type::FixedLine);
-//! assert_eq!(world.region(&number)?.as_deref(), Some("NZ"));
+//! assert_eq!(world.region(&number)?, Some(Region::NZ));
 //! assert!(world.is_valid(&number)? && number.extension() == Some("12"));
 //! # Ok::<(), Box<dyn std::error::Error>>(())
 //! ```
@@ -16,11 +16,11 @@
 //! crate `phonenumber` 0.3.10.
 //!
 //! ```
-//! use phonenumber_proved::{Database, Rules};
+//! use phonenumber_proved::{Database, Region, Rules};
 //! let world = Database::world()?;
 //! let text = "+44 (0)20 7946 0018";
-//! assert_eq!(world.parse(Some("US"), text)?.to_string(), "+442079460018");
-//! assert_eq!(world.by(Rules::Crate).parse(Some("US"), text)?.to_string(), "+4402079460018");
+//! assert_eq!(world.parse(Region::US, text)?.to_string(), "+442079460018");
+//! assert_eq!(world.by(Rules::Crate).parse(Region::US, text)?.to_string(), "+4402079460018");
 //! # Ok::<(), phonenumber_proved::Error>(())
 //! ```
 //!
@@ -36,11 +36,13 @@ mod dialling;
 mod error;
 mod found;
 mod number;
+mod own;
 mod places;
 mod possible;
 mod prefixes;
 mod questions;
 mod records;
+mod region;
 mod short;
 mod typing;
 #[cfg(feature = "serde")]
@@ -52,14 +54,16 @@ pub use columns::{Column, Columns, Offset, Texts, TextsBuf};
 pub use database::{By, Database, Formatter, Rules};
 pub use dialling::{FactsAnywhere, Layout, Layouts};
 pub use error::{Error, LineFault};
-pub use found::{Found, Leniency};
+pub use found::{Alternates, Found, Leniency};
 pub use number::{Mode, PhoneNumber, Source, Type};
+pub use own::{extract, match_numbers};
 pub use places::{Atlas, AtlasTables};
 pub use possible::{Possibility, Sameness};
 pub use prefixes::Prefixes;
 pub use questions::{
-    Form, NumberFacts, NumberMatch, RegionFacts, has_letters, is_geographical, match_numbers, mobile_token, normalize,
+    Form, NumberFacts, NumberMatch, RegionFacts, has_letters, is_geographical, library_match_numbers, mobile_token, normalize,
 };
+pub use region::Region;
 pub use short::{Cost, ShortFacts, ShortNumbers, SmsServices};
 pub use typing::Typing;
 
@@ -79,6 +83,10 @@ pub const SHORT: &str = include_str!(concat!(env!("PHONE_TABLES"), "/short.json"
 /// The metadata of SMS services that go with this crate, short numbers that messages are sent to.
 #[cfg(feature = "table")]
 pub const SMS: &str = include_str!(concat!(env!("PHONE_TABLES"), "/sms.json"));
+
+/// The alternate formats that go with this crate, for [`Alternates`].
+#[cfg(feature = "table")]
+pub const ALTERNATES: &str = include_str!(concat!(env!("PHONE_TABLES"), "/alternates.json"));
 
 /// The time zones by prefix that go with this crate, for [`Prefixes::of`]; those of a prefix are parted by `&`.
 ///

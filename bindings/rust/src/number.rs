@@ -20,7 +20,7 @@ pub enum Mode {
 }
 
 /// How a calling code was found.
-#[derive(Clone, Copy, Debug, PartialEq, Eq, Hash, PartialOrd, Ord)]
+#[derive(Clone, Copy, Debug, Default, PartialEq, Eq, Hash, PartialOrd, Ord)]
 pub enum Source {
     /// After a plus sign.
     Plus,
@@ -29,6 +29,7 @@ pub enum Source {
     /// At the front of the digits.
     Number,
     /// From the default region.
+    #[default]
     Default,
 }
 

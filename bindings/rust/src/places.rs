@@ -1,10 +1,11 @@
 //! Where numbers are: areas, carriers and names of countries in a locale, and time zones.
-use crate::call::text_of;
+use crate::call::{hint_of, text_of};
 use crate::database::{Database, Rules};
 use crate::error::Error;
 use crate::ffi;
 use crate::number::PhoneNumber;
 use crate::prefixes::Prefixes;
+use crate::region::Region;
 use std::fmt;
 use std::sync::{Mutex, PoisonError};
 
@@ -26,13 +27,13 @@ pub struct AtlasTables<'t> {
 /// What is known in a locale, as `de`, `zh_TW` or `sr-Latn-RS`. Threads ask it in turn.
 ///
 /// ```
-/// use phonenumber_proved::{Atlas, AtlasTables, Database, Prefixes};
+/// use phonenumber_proved::{Atlas, AtlasTables, Database, Prefixes, Region};
 /// let (world, areas) = (Database::world()?, Prefixes::of("4144\tZürich\n")?);
 /// let tables = AtlasTables { areas: Some(&areas), names: "CH\tSchweiz\n", ..AtlasTables::default() };
 /// let german = Atlas::open("de", tables)?;
 /// let number = world.parse(None, "+41 44 668 1800")?;
 /// assert_eq!(german.description(&world, &number, None)?, "Zürich");
-/// assert_eq!(german.description(&world, &number, Some("DE"))?, "Schweiz");
+/// assert_eq!(german.description(&world, &number, Region::DE)?, "Schweiz");
 /// # Ok::<(), phonenumber_proved::Error>(())
 /// ```
 pub struct Atlas {
@@ -93,7 +94,7 @@ impl Atlas {
 
     /// The description of a number: its area, and where none is known, or its kind is of no place, the name of its
     /// country; the name of its region where the user's is another; nothing where its kind is unknown.
-    pub fn description(&self, database: &Database, number: &PhoneNumber, user: Option<&str>) -> Result<String, Error> {
+    pub fn description(&self, database: &Database, number: &PhoneNumber, user: impl Into<Option<Region>>) -> Result<String, Error> {
         self.described(database, number, user, 0)
     }
 
@@ -102,7 +103,7 @@ impl Atlas {
         &self,
         database: &Database,
         number: &PhoneNumber,
-        user: Option<&str>,
+        user: impl Into<Option<Region>>,
     ) -> Result<String, Error> {
         self.described(database, number, user, 1)
     }
@@ -111,10 +112,10 @@ impl Atlas {
         &self,
         database: &Database,
         number: &PhoneNumber,
-        user: Option<&str>,
+        user: impl Into<Option<Region>>,
         as_it_stands: u8,
     ) -> Result<String, Error> {
-        let ((number, texts), user) = (number.to_ffi(), user.unwrap_or_default());
+        let ((number, texts), user) = (number.to_ffi(), hint_of(user));
         self.told(database, |handle, atlas, out, len, wrote| {
             let (bytes, bytes_len, region) = (texts.as_ptr(), texts.len(), user.as_ptr());
             // SAFETY: both handles are open, and lent to the call alone; the slices are valid, apart and initialized.

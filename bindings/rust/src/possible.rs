@@ -4,6 +4,7 @@ use crate::database::{By, Database};
 use crate::error::Error;
 use crate::ffi;
 use crate::number::PhoneNumber;
+use crate::region::Region;
 
 /// What the count of a number's digits says of it.
 #[derive(Clone, Copy, Debug, PartialEq, Eq, Hash, PartialOrd, Ord)]
@@ -60,13 +61,13 @@ impl Database {
     /// The same of a text, which may not be whole yet.
     ///
     /// ```
-    /// use phonenumber_proved::{Database, Possibility};
+    /// use phonenumber_proved::{Database, Possibility, Region};
     /// let world = Database::world()?;
-    /// assert_eq!(world.possibility_of_text(Some("US"), "+1 650 253 000")?, Possibility::TooShort);
-    /// assert_eq!(world.possibility_of_text(Some("US"), "253 0000")?, Possibility::PossibleLocally);
+    /// assert_eq!(world.possibility_of_text(Region::US, "+1 650 253 000")?, Possibility::TooShort);
+    /// assert_eq!(world.possibility_of_text(Region::US, "253 0000")?, Possibility::PossibleLocally);
     /// # Ok::<(), phonenumber_proved::Error>(())
     /// ```
-    pub fn possibility_of_text(&self, hint: Option<&str>, text: impl AsRef<str>) -> Result<Possibility, Error> {
+    pub fn possibility_of_text(&self, hint: impl Into<Option<Region>>, text: impl AsRef<str>) -> Result<Possibility, Error> {
         self.by(Default::default()).possibility_of_text(hint, text)
     }
 
@@ -94,8 +95,8 @@ impl By<'_> {
     }
 
     /// The same of a text, which may not be whole yet.
-    pub fn possibility_of_text(&self, hint: Option<&str>, text: impl AsRef<str>) -> Result<Possibility, Error> {
-        let (hint, text, mut told) = (hint_of(hint)?, text.as_ref(), 0);
+    pub fn possibility_of_text(&self, hint: impl Into<Option<Region>>, text: impl AsRef<str>) -> Result<Possibility, Error> {
+        let (hint, text, mut told) = (hint_of(hint), text.as_ref(), 0);
         // SAFETY: the handle is open, and lent to the call alone; the slices are valid, apart and initialized.
         check(self.records().with(|handle| unsafe {
             ffi::phone_text_possibility(handle, hint.as_ptr(), hint.len(), text.as_ptr(), text.len(), &mut told)

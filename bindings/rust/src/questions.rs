@@ -5,6 +5,7 @@ use crate::error::Error;
 use crate::ffi;
 use crate::number::{PhoneNumber, TYPES, Type};
 use crate::possible::{POSSIBILITIES, Possibility};
+use crate::region::Region;
 
 /// How like two numbers are by libphonenumber's rules; [`Sameness`](crate::Sameness) has rules of its own.
 #[derive(Clone, Copy, Debug, PartialEq, Eq, Hash, PartialOrd, Ord)]
@@ -32,6 +33,7 @@ const MATCHES: [NumberMatch; 5] = [
 
 /// What is made of a text by [`normalize`].
 #[derive(Clone, Copy, Debug, PartialEq, Eq, Hash, PartialOrd, Ord)]
+#[non_exhaustive]
 pub enum Form {
     /// Each letter is turned to the digit of its key; all else stays.
     Keys,
@@ -43,6 +45,7 @@ pub enum Form {
 
 /// What is known of a region.
 #[derive(Clone, Copy, Debug, PartialEq, Eq, Hash)]
+#[non_exhaustive]
 pub struct RegionFacts {
     /// Its calling code, as 64 for New Zealand.
     pub code: u16,
@@ -54,6 +57,7 @@ pub struct RegionFacts {
 
 /// What is known of a number, its digits being those of the national number with its leading zeros.
 #[derive(Clone, Copy, Debug, PartialEq, Eq, Hash)]
+#[non_exhaustive]
 pub struct NumberFacts {
     /// How many of its digits are its area's code; 0 where it has none.
     pub area_length: usize,
@@ -61,12 +65,12 @@ pub struct NumberFacts {
     pub destination_length: usize,
     /// Whether it is of a place.
     pub is_geographical: bool,
-    /// Whether it can be dialled from abroad: unless its region says that it is dialled at home alone. So it is also
-    /// said of a number that isn't valid.
+    /// Whether it can be dialled from abroad, as libphonenumber has it: unless its region says that it is dialled at home
+    /// alone. So it is also said of a number that isn't valid, unlike by [`Database::reaches_from_abroad`].
     pub is_dialled_from_abroad: bool,
 }
 
-fn matched(status: u32, told: u32) -> Result<NumberMatch, Error> {
+pub(crate) fn matched(status: u32, told: u32) -> Result<NumberMatch, Error> {
     check(status)?;
     MATCHES.get(told as usize).copied().ok_or(Error::Other(told))
 }
@@ -80,18 +84,18 @@ impl Database {
         self.by(Rules::Library).records().with(call)
     }
 
-    /// What is known of a region, whose id is as `NZ`; `NoTerritory` where the database has none of it.
+    /// What is known of a region; `NoTerritory` where the database has none of it.
     ///
     /// ```
-    /// use phonenumber_proved::{Database, Type};
+    /// use phonenumber_proved::{Database, Region, Type};
     /// let world = Database::world()?;
-    /// let facts = world.about_region("GB")?;
+    /// let facts = world.about_region(Region::GB)?;
     /// assert_eq!((facts.code, facts.is_nanpa, facts.is_portable), (44, false, true));
-    /// assert_eq!(world.national_prefix("GB")?.as_deref(), Some("0"));
-    /// assert_eq!(world.region_kinds("AC")?, [Type::FixedLine, Type::Mobile, Type::Uan]);
+    /// assert_eq!(world.national_prefix(Region::GB)?.as_deref(), Some("0"));
+    /// assert_eq!(world.region_kinds(Region::AC)?, [Type::FixedLine, Type::Mobile, Type::Uan]);
     /// # Ok::<(), phonenumber_proved::Error>(())
     /// ```
-    pub fn about_region(&self, region: &str) -> Result<RegionFacts, Error> {
+    pub fn about_region(&self, region: Region) -> Result<RegionFacts, Error> {
         let mut facts = ffi::RegionFacts::default();
         // SAFETY: the handle is open, and lent to the call alone; the slice is valid and initialized.
         check(self.asked(|handle| unsafe {
@@ -102,16 +106,16 @@ impl Database {
     }
 
     /// The national prefix of a region, dialled there before a national number. A tilde in it means to wait for a tone.
-    pub fn national_prefix(&self, region: &str) -> Result<Option<String>, Error> {
+    pub fn national_prefix(&self, region: Region) -> Result<Option<String>, Error> {
         self.prefix(region, 0)
     }
 
     /// The same prefix without its tildes.
-    pub fn national_prefix_digits(&self, region: &str) -> Result<Option<String>, Error> {
+    pub fn national_prefix_digits(&self, region: Region) -> Result<Option<String>, Error> {
         self.prefix(region, 1)
     }
 
-    fn prefix(&self, region: &str, only_digits: u8) -> Result<Option<String>, Error> {
+    fn prefix(&self, region: Region, only_digits: u8) -> Result<Option<String>, Error> {
         let prefix = text_of(8, |out, len, wrote| {
             // SAFETY: as in `about_region`.
             self.asked(|handle| unsafe {
@@ -122,7 +126,7 @@ impl Database {
     }
 
     /// The kinds of number that a region has, in libphonenumber's order.
-    pub fn region_kinds(&self, region: &str) -> Result<Vec<Type>, Error> {
+    pub fn region_kinds(&self, region: Region) -> Result<Vec<Type>, Error> {
         types_of(items_of(16, |out, len, wrote| {
             // SAFETY: as in `about_region`.
             self.asked(|handle| unsafe {
@@ -134,7 +138,7 @@ impl Database {
     /// The id of a calling code's main region, as `GB`; `001` for a code that serves no region.
     ///
     /// ```
-    /// use phonenumber_proved::{Database, Type};
+    /// use phonenumber_proved::{Database, Region, Type};
     /// let world = Database::world()?;
     /// assert_eq!(world.main_region(44)?.as_deref(), Some("GB"));
     /// assert_eq!((world.main_region(800)?.as_deref(), world.main_region(999)?), (Some("001"), None));
@@ -163,13 +167,13 @@ impl Database {
     /// What is known of a number.
     ///
     /// ```
-    /// use phonenumber_proved::Database;
+    /// use phonenumber_proved::{Database, Region};
     /// let world = Database::world()?;
-    /// let number = world.parse(Some("US"), "(650) 253-0000")?;
+    /// let number = world.parse(Region::US, "(650) 253-0000")?;
     /// let facts = world.about(&number)?;
     /// assert_eq!((facts.area_length, facts.destination_length), (3, 3));
     /// assert!(facts.is_geographical && facts.is_dialled_from_abroad);
-    /// assert!(world.is_valid_for("US", &number)? && !world.is_valid_for("CA", &number)?);
+    /// assert!(world.is_valid_for(Region::US, &number)? && !world.is_valid_for(Region::CA, &number)?);
     /// # Ok::<(), phonenumber_proved::Error>(())
     /// ```
     pub fn about(&self, number: &PhoneNumber) -> Result<NumberFacts, Error> {
@@ -183,8 +187,8 @@ impl Database {
 
     /// Whether a number is valid for the territory of its calling code that has this id: a region's, or `001` of a code
     /// that serves none.
-    pub fn is_valid_for(&self, id: &str, number: &PhoneNumber) -> Result<bool, Error> {
-        let (number, mut told) = (number.plain(), 0);
+    pub fn is_valid_for(&self, id: impl AsRef<str>, number: &PhoneNumber) -> Result<bool, Error> {
+        let (id, number, mut told) = (id.as_ref(), number.plain(), 0);
         // SAFETY: as in `about_region`.
         check(self.asked(|handle| unsafe {
             ffi::phone_is_valid_for(handle, id.as_ptr(), id.len(), &number, &mut told)
@@ -192,17 +196,9 @@ impl Database {
         Ok(told == 1)
     }
 
-    /// What the count of a number's digits says of it as a number of a kind; `Unknown` is any.
-    ///
-    /// ```
-    /// use phonenumber_proved::{Database, Possibility, Type};
-    /// let world = Database::world()?;
-    /// let number = world.parse(None, "+64 800 123 456")?;
-    /// assert_eq!(world.possibility_as(Type::TollFree, &number)?, Possibility::Possible);
-    /// assert_eq!(world.possibility_as(Type::FixedLine, &number)?, Possibility::TooLong);
-    /// # Ok::<(), phonenumber_proved::Error>(())
-    /// ```
-    pub fn possibility_as(&self, kind: Type, number: &PhoneNumber) -> Result<Possibility, Error> {
+    /// What the count of a number's digits says of it as a number of a kind, as libphonenumber has it: by the lengths of the
+    /// main region of its calling code, also where [`Database::possibility_as`] asks another.
+    pub fn library_possibility_as(&self, kind: Type, number: &PhoneNumber) -> Result<Possibility, Error> {
         let (number, mut told) = (number.plain(), 0);
         // SAFETY: as in `about`.
         check(self.asked(|handle| unsafe {
@@ -227,17 +223,18 @@ impl Database {
         Ok((told == 1).then(|| PhoneNumber::of(&left, texts.as_bytes())))
     }
 
-    /// How like a number and a text are; a text without a calling code is parsed in the main region of the number's.
+    /// How like a number and a text are, as libphonenumber has it: like [`Database::match_text`], but any digits may be an end
+    /// of others.
     ///
     /// ```
     /// use phonenumber_proved::{Database, NumberMatch};
     /// let world = Database::world()?;
     /// let number = world.parse(None, "+64 3 331 6005")?;
-    /// assert_eq!(world.match_text(&number, "03 331 6005")?, NumberMatch::NsnMatch);
-    /// assert_eq!(world.match_texts("+64 3 331 6005", "tel:+64-3-331-6005")?, NumberMatch::ExactMatch);
+    /// assert_eq!(world.library_match_text(&number, "0064 3 331 6005")?, NumberMatch::NsnMatch);
+    /// assert_eq!(world.library_match_texts("+64 3 331 6005", "31 6005")?, NumberMatch::ShortNsnMatch);
     /// # Ok::<(), phonenumber_proved::Error>(())
     /// ```
-    pub fn match_text(&self, number: &PhoneNumber, text: impl AsRef<str>) -> Result<NumberMatch, Error> {
+    pub fn library_match_text(&self, number: &PhoneNumber, text: impl AsRef<str>) -> Result<NumberMatch, Error> {
         let ((number, texts), text, mut told) = (number.to_ffi(), text.as_ref(), 0);
         // SAFETY: the handle is open, and lent to the call alone; the slices are valid, apart and initialized.
         let status = self.asked(|handle| unsafe {
@@ -247,8 +244,8 @@ impl Database {
         matched(status, told)
     }
 
-    /// How like two texts are, each perhaps without its calling code.
-    pub fn match_texts(&self, first: impl AsRef<str>, second: impl AsRef<str>) -> Result<NumberMatch, Error> {
+    /// How like two texts are, as libphonenumber has it.
+    pub fn library_match_texts(&self, first: impl AsRef<str>, second: impl AsRef<str>) -> Result<NumberMatch, Error> {
         let (first, second, mut told) = (first.as_ref(), second.as_ref(), 0);
         // SAFETY: as in `match_text`.
         let status = self.asked(|handle| unsafe {
@@ -261,9 +258,9 @@ impl Database {
     /// database lacks its calling code.
     ///
     /// ```
-    /// use phonenumber_proved::Database;
+    /// use phonenumber_proved::{Database, Region};
     /// let world = Database::world()?;
-    /// let number = world.parse(Some("BR"), "0 31 21 2128-6979")?;
+    /// let number = world.parse(Region::BR, "0 31 21 2128-6979")?;
     /// assert_eq!(world.national_with(&number, "15")?, "0 15 (21) 2128-6979");
     /// assert_eq!(world.national_with_preferred(&number, "15")?, "0 31 (21) 2128-6979");
     /// # Ok::<(), phonenumber_proved::Error>(())
@@ -291,16 +288,9 @@ impl Database {
     }
 }
 
-/// How like two numbers are. One of the calling code 0 is one whose code isn't known.
-///
-/// ```
-/// use phonenumber_proved::{NumberMatch, PhoneNumber, match_numbers};
-/// let number = PhoneNumber::from_parts(64, 33316005, 0)?;
-/// let other = PhoneNumber::from_parts(0, 3316005, 0)?;
-/// assert_eq!(match_numbers(&number, &other)?, NumberMatch::ShortNsnMatch);
-/// # Ok::<(), phonenumber_proved::Error>(())
-/// ```
-pub fn match_numbers(first: &PhoneNumber, second: &PhoneNumber) -> Result<NumberMatch, Error> {
+/// How like two numbers are, as libphonenumber has it: like [`match_numbers`](crate::match_numbers), but any digits may be an end
+/// of others.
+pub fn library_match_numbers(first: &PhoneNumber, second: &PhoneNumber) -> Result<NumberMatch, Error> {
     let ((one, texts), (two, others), mut told) = (first.to_ffi(), second.to_ffi(), 0);
     // SAFETY: the slices are valid, apart and initialized.
     let status = unsafe {

@@ -2,7 +2,9 @@
 use crate::call::check;
 use crate::error::Error;
 use crate::ffi;
+use crate::found::regions_of;
 use crate::records::Records;
+use crate::region::Region;
 use std::fmt;
 use std::path::Path;
 
@@ -19,6 +21,7 @@ pub(crate) const COSTS: [Cost; 4] = [Cost::TollFree, Cost::StandardRate, Cost::P
 
 /// What is known of a text as a short number of a region.
 #[derive(Clone, Copy, Debug, PartialEq, Eq, Hash)]
+#[non_exhaustive]
 pub struct ShortFacts {
     /// Whether the count of its digits is possible.
     pub is_possible: bool,
@@ -37,12 +40,11 @@ pub struct ShortFacts {
 /// Metadata of short numbers. Threads use it at once, and clones share it, as with a [`Database`](crate::Database).
 ///
 /// ```
-/// use phonenumber_proved::{Cost, Error, SHORT, ShortNumbers};
+/// use phonenumber_proved::{Cost, Region, SHORT, ShortNumbers};
 /// let table = ShortNumbers::from_json(SHORT)?;
-/// let facts = table.short("NZ", "111")?;
+/// let facts = table.short(Region::NZ, "111")?;
 /// assert!(facts.is_valid && facts.is_emergency && facts.cost == Cost::TollFree);
-/// assert_eq!(table.short("nz", "111").unwrap_err(), Error::NoRegion);
-/// # Ok::<(), Error>(())
+/// # Ok::<(), phonenumber_proved::Error>(())
 /// ```
 #[derive(Clone)]
 pub struct ShortNumbers {
@@ -66,8 +68,8 @@ impl ShortNumbers {
         ShortNumbers::from_json(std::fs::read(path)?)
     }
 
-    /// What is known of a text as a short number of a region, whose id is as `NZ`.
-    pub fn short(&self, region: &str, text: impl AsRef<str>) -> Result<ShortFacts, Error> {
+    /// What is known of a text as a short number of a region.
+    pub fn short(&self, region: Region, text: impl AsRef<str>) -> Result<ShortFacts, Error> {
         let (text, mut facts) = (text.as_ref(), ffi::ShortFacts::default());
         // SAFETY: the handle is open, and lent to the call alone; the slices are valid, apart and initialized.
         check(self.records.with(|handle| unsafe {
@@ -81,6 +83,17 @@ impl ShortNumbers {
             is_emergency: facts.is_emergency == 1,
             reaches_emergency: facts.reaches_emergency == 1,
         })
+    }
+
+    /// The ids of the regions whose short numbers it has, by the alphabet.
+    ///
+    /// ```
+    /// use phonenumber_proved::{Region, SHORT, ShortNumbers};
+    /// assert_eq!(ShortNumbers::from_json(SHORT)?.regions()?[..2], [Region::AC, Region::AD]);
+    /// # Ok::<(), phonenumber_proved::Error>(())
+    /// ```
+    pub fn regions(&self) -> Result<Vec<Region>, Error> {
+        regions_of(&self.records)
     }
 }
 

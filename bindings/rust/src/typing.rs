@@ -1,13 +1,14 @@
 //! A number as it is typed.
 use crate::database::Database;
 use crate::error::Error;
+use crate::region::Region;
 
 /// A number as it is typed: the keys so far, and what is shown of them.
 ///
 /// ```
-/// use phonenumber_proved::Database;
+/// use phonenumber_proved::{Database, Region};
 /// let world = Database::world()?;
-/// let mut field = world.typing(Some("US"))?;
+/// let mut field = world.typing(Region::US)?;
 /// for key in "6502530000".chars() {
 ///     field.push(key)?;
 /// }
@@ -21,7 +22,7 @@ use crate::error::Error;
 #[derive(Clone, Debug)]
 pub struct Typing<'d> {
     database: &'d Database,
-    hint: Option<String>,
+    hint: Option<Region>,
     keys: String,
     shown: String,
 }
@@ -29,9 +30,10 @@ pub struct Typing<'d> {
 impl<'d> Typing<'d> {
     /// A field in which nothing is typed yet. `hint` is the default region, in which digits without a plus
     /// sign are dialled.
-    pub fn new(database: &'d Database, hint: Option<&str>) -> Result<Typing<'d>, Error> {
+    pub fn new(database: &'d Database, hint: impl Into<Option<Region>>) -> Result<Typing<'d>, Error> {
+        let hint = hint.into();
         database.typed(hint, "")?;
-        Ok(Typing { database, hint: hint.map(str::to_owned), keys: String::new(), shown: String::new() })
+        Ok(Typing { database, hint, keys: String::new(), shown: String::new() })
     }
 
     /// What is shown.
@@ -69,12 +71,12 @@ impl<'d> Typing<'d> {
     /// After how many characters of what is shown the n-th key stands, counted from 1: 0 for no key, all of
     /// them from the last key on.
     pub fn caret(&self, n: usize) -> Result<usize, Error> {
-        self.database.caret(self.hint.as_deref(), &self.keys, n)
+        self.database.caret(self.hint, &self.keys, n)
     }
 
     /// Shows keys. What is shown is these, with marks between them.
     fn show(&mut self, keys: String) -> Result<(), Error> {
-        self.shown = self.database.typed(self.hint.as_deref(), keys)?;
+        self.shown = self.database.typed(self.hint, keys)?;
         self.keys = self.shown.chars().filter(|c| c.is_ascii_digit() || *c == '+').collect();
         Ok(())
     }

@@ -3,33 +3,38 @@
 //! belongs to neither.
 use phonenumber_proved::{
     Column, Cost, Database, Error, Form, Found, Layout, Layouts, Leniency, LineFault, Mode, NumberMatch, PhoneNumber,
-    Prefixes, Rules, SHORT, ShortNumbers, Source, TABLE_VERSION, TIME_ZONES, Texts, TextsBuf, Type, WORLD, has_letters,
+    Prefixes, Region, Rules, SHORT, ShortNumbers, Source, TABLE_VERSION, TIME_ZONES, Texts, TextsBuf, Type, WORLD, has_letters,
     is_geographical, is_viable, match_numbers, mobile_token, normalize,
 };
 use std::collections::{BTreeSet, HashMap, HashSet};
 use std::sync::Arc;
+
+/// The region that a row names, `-` for none.
+fn region(id: &str) -> Result<Option<Region>, Error> {
+    if id == "-" { Ok(None) } else { id.parse().map(Some) }
+}
 
 fn world() -> Database {
     Database::from_json(WORLD).expect("the table of the world is read")
 }
 
 /// Hint, text: all are 33316005 of New Zealand.
-const ONE_NUMBER: [(&str, &str, Source); 15] = [
-    ("NZ", "033316005", Source::Default),
-    ("NZ", "33316005", Source::Default),
-    ("NZ", "03-331 6005", Source::Default),
-    ("NZ", "03 331 6005", Source::Default),
-    ("NZ", "tel:03-331-6005;phone-context=+64", Source::Plus),
-    ("NZ", "tel:03-331-6005;phone-context=+64;a=%A1", Source::Plus),
-    ("NZ", "tel:03-331-6005;isub=12345;phone-context=+64", Source::Plus),
-    ("NZ", "tel:+64-3-331-6005;isub=12345", Source::Plus),
-    ("NZ", "03-331-6005;phone-context=+64", Source::Plus),
-    ("NZ", "0064 3 331 6005", Source::Idd),
-    ("US", "01164 3 331 6005", Source::Idd),
-    ("US", "+64 3 331 6005", Source::Plus),
-    ("US", "+01164 3 331 6005", Source::Plus),
-    ("NZ", "+0064 3 331 6005", Source::Plus),
-    ("NZ", "+ 00 64 3 331 6005", Source::Plus),
+const ONE_NUMBER: [(Region, &str, Source); 15] = [
+    (Region::NZ, "033316005", Source::Default),
+    (Region::NZ, "33316005", Source::Default),
+    (Region::NZ, "03-331 6005", Source::Default),
+    (Region::NZ, "03 331 6005", Source::Default),
+    (Region::NZ, "tel:03-331-6005;phone-context=+64", Source::Plus),
+    (Region::NZ, "tel:03-331-6005;phone-context=+64;a=%A1", Source::Plus),
+    (Region::NZ, "tel:03-331-6005;isub=12345;phone-context=+64", Source::Plus),
+    (Region::NZ, "tel:+64-3-331-6005;isub=12345", Source::Plus),
+    (Region::NZ, "03-331-6005;phone-context=+64", Source::Plus),
+    (Region::NZ, "0064 3 331 6005", Source::Idd),
+    (Region::US, "01164 3 331 6005", Source::Idd),
+    (Region::US, "+64 3 331 6005", Source::Plus),
+    (Region::US, "+01164 3 331 6005", Source::Plus),
+    (Region::NZ, "+0064 3 331 6005", Source::Plus),
+    (Region::NZ, "+ 00 64 3 331 6005", Source::Plus),
 ];
 
 #[test]
@@ -44,9 +49,9 @@ fn one_number_is_written_in_many_ways() {
 }
 
 /// Hint, text, code, value, source.
-const READ: [(Option<&str>, &str, u16, u64, Source); 3] = [
-    (Some("NZ"), "64(0)64123456", 64, 64123456, Source::Number),
-    (Some("DE"), "301/23456", 49, 30123456, Source::Default),
+const READ: [(Option<Region>, &str, u16, u64, Source); 3] = [
+    (Some(Region::NZ), "64(0)64123456", 64, 64123456, Source::Number),
+    (Some(Region::DE), "301/23456", 49, 30123456, Source::Default),
     (None, "+81 *2345", 81, 2345, Source::Plus),
 ];
 
@@ -61,21 +66,21 @@ fn numbers_are_read() {
 }
 
 /// Text, region, kind.
-const KINDS: [(&str, Option<&str>, Type); 14] = [
+const KINDS: [(&str, Option<Region>, Type); 14] = [
     ("+80012340000", None, Type::TollFree),
-    ("+61406823897", Some("AU"), Type::Mobile),
-    ("+611900123456", Some("AU"), Type::PremiumRate),
-    ("+32474091150", Some("BE"), Type::Mobile),
-    ("+34666777888", Some("ES"), Type::Mobile),
-    ("+34612345678", Some("ES"), Type::Mobile),
-    ("+441212345678", Some("GB"), Type::FixedLine),
-    ("+13459492311", Some("KY"), Type::FixedLine),
-    ("+16137827274", Some("CA"), Type::FixedLineOrMobile),
-    ("+1 520 878 2491", Some("US"), Type::FixedLineOrMobile),
-    ("+1-520-878-2491", Some("US"), Type::FixedLineOrMobile),
-    ("+1 800 723 3456", Some("US"), Type::TollFree),
-    ("+1-800-723-3456", Some("US"), Type::TollFree),
-    ("+330631966543", Some("FR"), Type::Mobile),
+    ("+61406823897", Some(Region::AU), Type::Mobile),
+    ("+611900123456", Some(Region::AU), Type::PremiumRate),
+    ("+32474091150", Some(Region::BE), Type::Mobile),
+    ("+34666777888", Some(Region::ES), Type::Mobile),
+    ("+34612345678", Some(Region::ES), Type::Mobile),
+    ("+441212345678", Some(Region::GB), Type::FixedLine),
+    ("+13459492311", Some(Region::KY), Type::FixedLine),
+    ("+16137827274", Some(Region::CA), Type::FixedLineOrMobile),
+    ("+1 520 878 2491", Some(Region::US), Type::FixedLineOrMobile),
+    ("+1-520-878-2491", Some(Region::US), Type::FixedLineOrMobile),
+    ("+1 800 723 3456", Some(Region::US), Type::TollFree),
+    ("+1-800-723-3456", Some(Region::US), Type::TollFree),
+    ("+330631966543", Some(Region::FR), Type::Mobile),
 ];
 
 #[test]
@@ -84,7 +89,7 @@ fn regions_and_kinds_are_told() {
     for (text, region, kind) in KINDS {
         for world in [world.by(Rules::Library), world.by(Rules::Crate)] {
             let number = world.parse(None, text).unwrap();
-            assert_eq!(world.region(&number).unwrap().as_deref(), region, "{text}");
+            assert_eq!(world.region(&number).unwrap(), region, "{text}");
             assert_eq!(world.number_type(&number).unwrap(), kind, "{text}");
         }
     }
@@ -108,14 +113,14 @@ fn printed_numbers_are_read_back() {
 }
 
 /// Hint, text, national, international.
-const PRINTED: [(&str, &str, &str, &str); 7] = [
-    ("BJ", "+2290195123456", "01 95 12 34 56", "+229 01 95 12 34 56"),
-    ("FR", "+330631966543", "06 31 96 65 43", "+33 6 31 96 65 43"),
-    ("US", "+1 6502530000", "(650) 253-0000", "+1 650-253-0000"),
-    ("US", "+1 8002530000", "(800) 253-0000", "+1 800-253-0000"),
-    ("US", "+1 9002530000", "(900) 253-0000", "+1 900-253-0000"),
-    ("GB", "+44 2070313000", "020 7031 3000", "+44 20 7031 3000"),
-    ("GB", "+44 7912345678", "07912 345678", "+44 7912 345678"),
+const PRINTED: [(Region, &str, &str, &str); 7] = [
+    (Region::BJ, "+2290195123456", "01 95 12 34 56", "+229 01 95 12 34 56"),
+    (Region::FR, "+330631966543", "06 31 96 65 43", "+33 6 31 96 65 43"),
+    (Region::US, "+1 6502530000", "(650) 253-0000", "+1 650-253-0000"),
+    (Region::US, "+1 8002530000", "(800) 253-0000", "+1 800-253-0000"),
+    (Region::US, "+1 9002530000", "(900) 253-0000", "+1 900-253-0000"),
+    (Region::GB, "+44 2070313000", "020 7031 3000", "+44 20 7031 3000"),
+    (Region::GB, "+44 7912345678", "07912 345678", "+44 7912 345678"),
 ];
 
 #[test]
@@ -126,7 +131,7 @@ fn numbers_are_printed() {
         assert_eq!(world.format(&number).mode(Mode::National).to_string(), national);
         assert_eq!(world.format(&number).mode(Mode::International).to_string(), international);
     }
-    let number = world.parse(Some("FR"), "+330631966543").unwrap();
+    let number = world.parse(Some(Region::FR), "+330631966543").unwrap();
     assert_eq!(world.format(&number).to_string(), "+33631966543");
     assert_eq!(world.format(&number).mode(Mode::Rfc3966).to_string(), "tel:+33-6-31-96-65-43");
 }
@@ -193,7 +198,7 @@ fn hostile_texts_are_refused() {
     for text in HOSTILE {
         for world in [world.by(Rules::Library), world.by(Rules::Crate)] {
             assert!(world.parse(None, text).is_err(), "{text}");
-            assert!(world.parse(Some("US"), text).is_err(), "{text}");
+            assert!(world.parse(Some(Region::US), text).is_err(), "{text}");
         }
     }
 }
@@ -234,11 +239,11 @@ fn elsewhere<T: Send + 'static>(made: impl FnOnce() -> T + Send + 'static) -> T 
 fn what_is_open_goes_from_thread_to_thread() {
     let (world, zones) = elsewhere(|| (world(), Prefixes::of(TIME_ZONES).unwrap()));
     let (world, zones, number, zone) = elsewhere(move || {
-        let number = world.parse(Some("NZ"), "03-331 6005").unwrap();
+        let number = world.parse(Some(Region::NZ), "03-331 6005").unwrap();
         let zone = zones.longest("12015550123").unwrap();
         (world, zones, number, zone)
     });
-    assert_eq!((world.region(&number).unwrap().as_deref(), zone.unwrap().0), (Some("NZ"), "1201"));
+    assert_eq!((world.region(&number).unwrap(), zone.unwrap().0), (Some(Region::NZ), "1201"));
     elsewhere(move || drop((world, zones)));
 }
 
@@ -251,13 +256,13 @@ fn threads_use_one_table_at_once() {
             std::thread::spawn(move || {
                 for (text, region, kind) in KINDS.iter().cycle().take(20 * KINDS.len()) {
                     let number = world.parse(None, text).unwrap();
-                    assert_eq!(world.region(&number).unwrap().as_deref(), *region, "{text}");
+                    assert_eq!(world.region(&number).unwrap(), *region, "{text}");
                     assert_eq!(world.number_type(&number).unwrap(), *kind, "{text}");
                     assert_eq!(world.by(Rules::Crate).parse(None, text).unwrap(), number, "{text}");
                     let has_zone = zones.longest(&number.to_string()[1..]).unwrap().is_some();
                     assert_eq!(has_zone, region.is_some(), "{text}");
                 }
-                let mut field = world.typing(Some("US")).unwrap();
+                let mut field = world.typing(Some(Region::US)).unwrap();
                 field.push_str("6502530").unwrap();
                 assert_eq!(field.shown(), "650-2530");
             })
@@ -278,8 +283,8 @@ fn clones_share_a_table() {
     let (world, short) = (world(), ShortNumbers::from_json(SHORT).unwrap());
     let asked = |(world, short): (Database, ShortNumbers)| {
         elsewhere(move || {
-            let number = world.parse(Some("NZ"), "03-331 6005").unwrap();
-            assert!(world.is_valid(&number).unwrap() && short.short("NZ", "111").unwrap().is_emergency);
+            let number = world.parse(Some(Region::NZ), "03-331 6005").unwrap();
+            assert!(world.is_valid(&number).unwrap() && short.short(Region::NZ, "111").unwrap().is_emergency);
             (world, short)
         })
     };
@@ -291,11 +296,11 @@ fn clones_share_a_table() {
 }
 
 /// Hint, text, E.164 text by libphonenumber's rules, E.164 text by the crate's, whether that one is valid.
-const BY_RULES: [(&str, &str, &str, &str, bool); 4] = [
-    ("US", "+44 (0)20 7946 0018", "+442079460018", "+4402079460018", false),
-    ("US", "+49 176 12345678", "+4917612345678", "+497612345678", true),
-    ("NZ", "03-331 6005", "+6433316005", "+6433316005", true),
-    ("GB", "020 7946 0018", "+442079460018", "+442079460018", true),
+const BY_RULES: [(Region, &str, &str, &str, bool); 4] = [
+    (Region::US, "+44 (0)20 7946 0018", "+442079460018", "+4402079460018", false),
+    (Region::US, "+49 176 12345678", "+4917612345678", "+497612345678", true),
+    (Region::NZ, "03-331 6005", "+6433316005", "+6433316005", true),
+    (Region::GB, "020 7946 0018", "+442079460018", "+442079460018", true),
 ];
 
 #[test]
@@ -319,7 +324,7 @@ fn a_carrier_is_printed_by_the_crates_rules_alone() {
     for (rules, national) in
         [(Rules::Library, "(11) 2345-6789 ext. 7"), (Rules::Crate, "0 31 (11) 2345-6789 ext. 7")]
     {
-        let number = world.by(rules).parse(Some("BR"), "0 31 11 2345 6789 ext. 7").unwrap();
+        let number = world.by(rules).parse(Some(Region::BR), "0 31 11 2345 6789 ext. 7").unwrap();
         assert_eq!((number.extension(), number.carrier()), (Some("7"), Some("31")));
         assert_eq!(world.by(rules).format(&number).mode(Mode::National).to_string(), national);
     }
@@ -422,7 +427,7 @@ const PREFIXES: &str = include_str!("../../../crates/replay/data/prefixes.tsv");
 fn keys_are_shown_as_they_are_typed() {
     let (world, mut count) = (world(), 0);
     for row in rows(TYPED, "typed").filter(|row| row[0] == b"world/world") {
-        let (hint, keys, shown) = (Some(text(&row[1])).filter(|&hint| hint != "-"), text(&row[2]), text(&row[3]));
+        let (hint, keys, shown) = (region(text(&row[1])).unwrap(), text(&row[2]), text(&row[3]));
         let mut field = world.typing(hint).unwrap();
         let mut texts = Vec::new();
         for key in keys.chars() {
@@ -449,7 +454,7 @@ fn keys_are_shown_as_they_are_typed() {
 fn short_numbers_are_told() {
     let (table, mut count) = (ShortNumbers::from_json(SHORT).unwrap(), 0);
     for row in rows(SHORT_ROWS, "short").filter(|row| row[0] == b"world/short") {
-        let facts = table.short(text(&row[1]), text(&row[2])).unwrap();
+        let facts = table.short(text(&row[1]).parse().unwrap(), text(&row[2])).unwrap();
         let cost = match facts.cost {
             Cost::TollFree => "TOLL_FREE",
             Cost::StandardRate => "STANDARD_RATE",
@@ -497,14 +502,12 @@ fn a_text_may_be_longer_than_the_first_buffer() {
 
 #[test]
 fn what_is_no_region_is_refused() {
-    let (world, table) = (world(), ShortNumbers::from_json(SHORT).unwrap());
-    for region in ["", "nz", "XX", "001", "NZ ", "N\0", "\u{1F4A9}"] {
-        assert_eq!(world.parse(Some(region), "1").unwrap_err(), Error::NoRegion, "{region:?}");
-        assert_eq!(world.report(Some(region), "1").unwrap_err(), Error::NoRegion, "{region:?}");
-        assert_eq!(world.typed(Some(region), "1").unwrap_err(), Error::NoRegion, "{region:?}");
-        assert_eq!(world.typing(Some(region)).unwrap_err(), Error::NoRegion, "{region:?}");
-        assert_eq!(table.short(region, "1").unwrap_err(), Error::NoRegion, "{region:?}");
+    for text in ["", "nz", "XX", "001", "NZ ", "N\0", "\u{1F4A9}"] {
+        assert_eq!(text.parse::<Region>(), Err(Error::NoRegion), "{text:?}");
     }
+    let ids: Vec<String> = Region::ALL.iter().map(Region::to_string).collect();
+    assert!(ids.is_sorted() && ids.iter().zip(Region::ALL).all(|(id, region)| id.parse() == Ok(*region)));
+    assert_eq!(world().regions().as_deref(), Ok(Region::ALL));
 }
 
 /// How rows write that a text is no number.
@@ -556,21 +559,24 @@ fn utility(world: &Database, rules: Rules, call: &str, row: &[&str]) -> Option<(
             (3, by.possibility(&made(code, value, zeros, None)).map(|it| format!("{it:?}")))
         }
         ("possible-text", [hint, text, ..]) => {
-            (2, by.possibility_of_text(Some(*hint).filter(|it| *it != "-"), text).map(|it| format!("{it:?}")))
+            (2, region(hint).and_then(|hint| by.possibility_of_text(hint, text)).map(|it| format!("{it:?}")))
         }
         ("same", [one, two, ..]) => (2, by.compare(one, two).map(|it| format!("{it:?}"))),
-        ("dialled-from", [code, value, zeros, extension, region, ..]) => {
+        ("dialled-from", [code, value, zeros, extension, from, ..]) => {
             let number = made(code, value, zeros, extension.strip_prefix('='));
-            (5, world.dialled_from(region, &number).map(|text| format!("={text}")))
+            (5, from.parse().and_then(|from| world.dialled_from(from, &number)).map(|text| format!("={text}")))
         }
-        ("example", [region, name, ..]) => (2, by.example(region, kind(name)).map(parts)),
-        ("regions", _) => (0, world.regions().map(|ids| format!("={}", ids.join(" ")))),
+        ("example", [id, name, ..]) => (2, id.parse().and_then(|id| by.example(id, kind(name))).map(parts)),
+        ("regions", _) => {
+            let ids = world.regions().map(|ids| ids.into_iter().map(Region::as_str).collect::<Vec<_>>().join(" "));
+            (0, ids.map(|ids| format!("={ids}")))
+        }
         ("codes", _) => {
             let codes = world.codes().map(|codes| codes.iter().map(u16::to_string).collect::<Vec<_>>().join(" "));
             (0, codes.map(|codes| format!("={codes}")))
         }
         ("found", [hint, text, ..]) => {
-            let found = by.find(Some(*hint).filter(|it| *it != "-"), Leniency::Valid, text);
+            let found = region(hint).and_then(|hint| by.find(hint, Leniency::Valid, text));
             (2, found.map(|found| found_in(text, found)))
         }
         _ => return None,
@@ -627,12 +633,9 @@ fn what_is_possible_alike_dialled_listed_and_found_is_told() {
 #[test]
 fn further_questions_are_answered_or_refused() {
     let world = world();
-    assert_eq!(world.about_region("XX").unwrap_err(), Error::NoRegion);
-    assert_eq!(world.national_prefix("").unwrap_err(), Error::NoRegion);
-    assert_eq!(world.region_kinds("nz").unwrap_err(), Error::NoRegion);
     let none = Database::from_json("[]").unwrap();
-    assert_eq!(none.about_region("NZ").unwrap_err(), Error::NoTerritory);
-    assert_eq!((none.national_prefix("NZ"), none.main_region(64), none.code_kinds(800)), (Ok(None), Ok(None), Ok(vec![])));
+    assert_eq!(none.about_region(Region::NZ).unwrap_err(), Error::NoTerritory);
+    assert_eq!((none.national_prefix(Region::NZ), none.main_region(64), none.code_kinds(800)), (Ok(None), Ok(None), Ok(vec![])));
     // By either rules' numbers; an extension stays where digits are cut off.
     let number = world.parse(None, "+64 3 331 60059 ext. 12").unwrap();
     let left = world.truncated(&number).unwrap().unwrap();
@@ -669,7 +672,7 @@ fn column_of_rows(world: &Database) -> Vec<(Option<Vec<u8>>, Option<&'static str
     let mut rows: Vec<(Option<Vec<u8>>, Option<&str>)> = Vec::new();
     for region in world.regions().unwrap() {
         for kind in KINDS_IN_ORDER {
-            let Some(number) = world.example(&region, kind).unwrap() else { continue };
+            let Some(number) = world.example(region, kind).unwrap() else { continue };
             for mode in [Mode::E164, Mode::International, Mode::National, Mode::Rfc3966] {
                 let text = world.format(&number).mode(mode).to_text().unwrap().into_bytes();
                 rows.push((Some(text), hints[rows.len() % 5]));
@@ -700,7 +703,7 @@ fn a_row_of_a_column_is_what_the_calls_for_one_text_say() {
                 // A hint that is no region's id is told first.
                 Some(Err(_)) if *hint == Some("ZZ") => Err(Error::NoRegion),
                 Some(Err(_)) => Err(Error::NotUtf8),
-                Some(Ok(text)) => by.parse(*hint, text).map(Some),
+                Some(Ok(text)) => region(hint.unwrap_or("-")).and_then(|hint| by.parse(hint, text)).map(Some),
             };
             assert_eq!(told.refusal(row), read.as_ref().err().copied(), "{text:?} {hint:?}");
             let number = read.unwrap_or_default();
@@ -714,7 +717,7 @@ fn a_row_of_a_column_is_what_the_calls_for_one_text_say() {
             assert_eq!(parts, number.as_ref().map_or((0, 0, 0), of));
             let Some(number) = number else { continue };
             assert_eq!(told.number_type(row), by.number_type(&number).ok());
-            assert_eq!(told.region(row).map(str::to_owned), by.region(&number).unwrap());
+            assert_eq!(told.region(row), by.region(&number).unwrap().map(Region::as_str));
             assert_eq!(told.is_valid(row), by.is_valid(&number).ok());
         }
     }
@@ -781,12 +784,12 @@ fn columns_of_each_width_of_offsets_and_none_that_are_no_columns() {
 }
 
 /// Hint, text, region: how a number is printed as it was written.
-const ORIGINALS: [(Option<&str>, &str, Option<&str>, &str); 6] = [
-    (Some("NZ"), "3 331-6005", Some("NZ"), "3 331 6005"),
-    (Some("NZ"), "03-331-6005", Some("NZ"), "03 331 6005"),
-    (Some("NZ"), "0064 33316005", Some("NZ"), "0064 33316005"),
-    (Some("US"), "011 64 33316005", Some("US"), "011 64 3 331 6005"),
-    (Some("GB"), "020 7946 0018 #5", Some("GB"), "020 7946 0018 #5"),
+const ORIGINALS: [(Option<Region>, &str, Option<Region>, &str); 6] = [
+    (Some(Region::NZ), "3 331-6005", Some(Region::NZ), "3 331 6005"),
+    (Some(Region::NZ), "03-331-6005", Some(Region::NZ), "03 331 6005"),
+    (Some(Region::NZ), "0064 33316005", Some(Region::NZ), "0064 33316005"),
+    (Some(Region::US), "011 64 33316005", Some(Region::US), "011 64 3 331 6005"),
+    (Some(Region::GB), "020 7946 0018 #5", Some(Region::GB), "020 7946 0018 #5"),
     (None, "+64 33316005", None, "+64 3 331 6005"),
 ];
 
@@ -798,21 +801,23 @@ fn numbers_are_dialled_and_printed_as_they_were_written() {
         assert_eq!(world.original_text(region, Some(text), &number).as_deref(), Ok(wanted), "{text}");
     }
     let number = world.parse(None, "+61 1300 123456").unwrap();
-    let dialled = ["AU", "CX", "xx"].map(|id| world.mobile_text(id, true, None, &number).unwrap());
+    let dialled = ["AU", "CX", "xx"].map(|id| world.library_mobile_text(id, true, None, &number).unwrap());
     assert_eq!(dialled, ["1300 123 456", "", ""]);
-    assert_eq!(world.text_from(Some("xx"), None, &number).unwrap_err(), Error::NoRegion);
-    assert_eq!(world.original_text(Some(""), None, &number).unwrap_err(), Error::NoRegion);
+    let dialled = ["AU", "CX", "xx"].map(|id| world.mobile_text(id, true, &number).unwrap());
+    assert_eq!(dialled, ["1300 123 456", "1300 123 456", ""]);
     let none = Database::from_json("[]").unwrap();
     assert_eq!(none.format_read(Mode::National, None, &number).as_deref(), Ok("1300123456"));
-    assert_eq!(none.mobile_text("AU", false, Some("as it was"), &number).as_deref(), Ok("as it was"));
+    assert_eq!(none.library_mobile_text(Region::AU, false, Some("as it was"), &number).as_deref(), Ok("as it was"));
+    assert_eq!(none.mobile_text(Region::AU, false, &number).as_deref(), Ok(""));
     let quoted = Layout { pattern: r"(\d{4})(\d+)", format: "$1 \"\\\u{1}\" $2", ..Layout::default() };
     let own = Layouts::of(&[Layout { leading_digits: Some("2"), ..quoted }, quoted]).unwrap();
     let told = world.format_by(&own.clone(), Mode::National, &number).unwrap();
     assert_eq!(told, "1300 \"\\\u{1}\" 123456");
+    assert_eq!(world.format_by(&own, Mode::E164, &number).as_deref(), Ok("+611300123456"));
+    assert_eq!(world.library_format_by(&own, Mode::E164, &number).as_deref(), Ok("+611300 \"\\\u{1}\" 123456"));
     assert_eq!(Layouts::of(&[Layout { pattern: "(", ..quoted }]).unwrap_err(), Error::Database(12));
     let facts = world.short_anywhere(&shorts, &PhoneNumber::from_parts(1, 911, 0).unwrap()).unwrap();
-    assert_eq!((facts.is_possible, facts.is_valid, facts.cost), (true, true, Cost::Unknown));
-    let examples = [Cost::TollFree, Cost::Unknown].map(|cost| shorts.example("FR", Some(cost)).unwrap());
+    assert_eq!((facts.is_possible, facts.is_valid, facts.cost, facts.library_cost), (true, true, Cost::TollFree, Cost::Unknown));
+    let examples = [Cost::TollFree, Cost::Unknown].map(|cost| shorts.example(Region::FR, Some(cost)).unwrap());
     assert_eq!(examples, [Some("15".to_owned()), None]);
-    assert_eq!(shorts.example("xx", None).unwrap_err(), Error::NoRegion);
 }

@@ -1,40 +1,97 @@
 //! What numbers are written as by serde, and read from.
 use phonenumber_proved::compat::{self, NationalNumber, Type, country};
-use phonenumber_proved::{Database, PhoneNumber};
+use phonenumber_proved::{Database, PhoneNumber, Region};
 
-/// Texts, and what the crate `phonenumber` 0.3.10 writes of the number that each is.
-const THEIRS: [(&str, &str); 4] = [
-    ("+64 3 331 6005", r#"{"code":{"value":64,"source":"plus"},"national":{"value":33316005},"extension":null,"carrier":null}"#),
+/// The shapes that the crate `phonenumber` 0.3.10 declares, of which serde's own macros make its forms.
+mod theirs {
+    use serde::{Deserialize, Serialize};
+
+    #[derive(Serialize, Deserialize, Debug, PartialEq)]
+    #[serde(rename_all = "snake_case")]
+    pub enum Source {
+        Plus,
+        Idd,
+        Number,
+        Default,
+    }
+
+    #[derive(Serialize, Deserialize, Debug, PartialEq)]
+    pub struct Code {
+        pub value: u16,
+        pub source: Source,
+    }
+
+    #[derive(Serialize, Deserialize, Debug, PartialEq)]
+    pub struct NationalNumber {
+        pub value: u64,
+    }
+
+    #[derive(Serialize, Deserialize, Debug, PartialEq)]
+    pub struct Extension(pub String);
+
+    #[derive(Serialize, Deserialize, Debug, PartialEq)]
+    pub struct Carrier(pub String);
+
+    #[derive(Serialize, Deserialize, Debug, PartialEq)]
+    pub struct PhoneNumber {
+        pub code: Code,
+        pub national: NationalNumber,
+        pub extension: Option<Extension>,
+        pub carrier: Option<Carrier>,
+    }
+}
+
+/// Countries and texts, and what that crate writes of the number that each is.
+const FORMS: [(Option<country::Id>, &str, &str); 7] = [
+    (None, "+64 3 331 6005", r#"{"code":{"value":64,"source":"plus"},"national":{"value":33316005},"extension":null,"carrier":null}"#),
     (
+        None,
         "+64 3 331 6005 ext. 12",
         r#"{"code":{"value":64,"source":"plus"},"national":{"value":33316005},"extension":"12","carrier":null}"#,
     ),
     (
+        None,
         "+39 02 3661 8300",
         r#"{"code":{"value":39,"source":"plus"},"national":{"value":72057594274546236},"extension":null,"carrier":null}"#,
     ),
     (
-        "+55 11 2345 6789",
-        r#"{"code":{"value":55,"source":"plus"},"national":{"value":1123456789},"extension":null,"carrier":null}"#,
+        Some(country::BR),
+        "012 3121286979",
+        r#"{"code":{"value":55,"source":"default"},"national":{"value":3121286979},"extension":null,"carrier":"12"}"#,
+    ),
+    (
+        Some(country::NZ),
+        "64(0)64123456",
+        r#"{"code":{"value":64,"source":"number"},"national":{"value":64123456},"extension":null,"carrier":null}"#,
+    ),
+    (
+        Some(country::NZ),
+        "0064 3 331 6005",
+        r#"{"code":{"value":64,"source":"idd"},"national":{"value":33316005},"extension":null,"carrier":null}"#,
+    ),
+    (
+        Some(country::DE),
+        "301/23456",
+        r#"{"code":{"value":49,"source":"default"},"national":{"value":30123456},"extension":null,"carrier":null}"#,
     ),
 ];
 
 #[test]
-fn numbers_are_written_as_that_crate_does() {
-    for (text, form) in THEIRS {
-        let number = compat::parse(None, text).unwrap();
-        if !text.starts_with("+39") {
-            assert_eq!(serde_json::to_string(&number).unwrap(), form);
-        }
-        let read: compat::PhoneNumber = serde_json::from_str(&serde_json::to_string(&number).unwrap()).unwrap();
-        assert_eq!(read, number);
-        let bytes = bincode::serialize(&number).unwrap();
+fn numbers_have_the_forms_of_that_crate_in_both_directions() {
+    for (country, text, form) in FORMS {
+        let number = compat::parse(country, text).unwrap();
+        assert_eq!(serde_json::to_string(&number).unwrap(), form);
+        let theirs: theirs::PhoneNumber = serde_json::from_str(form).unwrap();
+        assert_eq!(serde_json::to_string(&theirs).unwrap(), form);
+        assert_eq!(serde_json::from_str::<compat::PhoneNumber>(form).unwrap(), number);
+        // The same bytes, each read by the other.
+        let (ours, bytes) = (bincode::serialize(&number).unwrap(), bincode::serialize(&theirs).unwrap());
+        assert_eq!(ours, bytes);
         assert_eq!(bincode::deserialize::<compat::PhoneNumber>(&bytes).unwrap(), number);
+        assert_eq!(bincode::deserialize::<theirs::PhoneNumber>(&ours).unwrap(), theirs);
+        let value = serde_json::to_value(&theirs).unwrap();
+        assert_eq!(serde_json::from_value::<compat::PhoneNumber>(value).unwrap(), number);
     }
-    let italian = compat::parse(None, "+39 02 3661 8300").unwrap();
-    let value = (1u64 << 56) | 236618300;
-    let form = format!(r#"{{"code":{{"value":39,"source":"plus"}},"national":{{"value":{value}}},"extension":null,"carrier":null}}"#);
-    assert_eq!(serde_json::to_string(&italian).unwrap(), form);
 }
 
 #[test]
@@ -68,5 +125,5 @@ fn our_own_numbers_have_a_form() {
         assert_eq!(bincode::deserialize::<PhoneNumber>(&bincode::serialize(&number).unwrap()).unwrap(), number);
     }
     let form = r#"{"code":64,"national":"33316005","extension":null,"carrier":null,"source":"default"}"#;
-    assert_eq!(serde_json::to_string(&world.parse(Some("NZ"), "03-331 6005").unwrap()).unwrap(), form);
+    assert_eq!(serde_json::to_string(&world.parse(Region::NZ, "03-331 6005").unwrap()).unwrap(), form);
 }

@@ -207,14 +207,13 @@ words! { Type {
 
 impl Serialize for Id {
     fn serialize<S: Serializer>(&self, serializer: S) -> Result<S::Ok, S::Error> {
-        let place = Id::all().iter().position(|it| it == self).expect("each id is one of them");
-        serializer.serialize_unit_variant("Id", place as u32, self.name())
+        serializer.serialize_unit_variant("Id", *self as u32, self.as_str())
     }
 }
 
 impl<'de> Deserialize<'de> for Id {
     fn deserialize<D: Deserializer<'de>>(deserializer: D) -> Result<Id, D::Error> {
-        let visitor = Words { name: "Id", words: Id::names() };
-        Ok(Id::all()[deserializer.deserialize_enum("Id", Id::names(), visitor)?])
+        let visitor = Words { name: "Id", words: Id::NAMES };
+        Ok(Id::ALL[deserializer.deserialize_enum("Id", Id::NAMES, visitor)?])
     }
 }
