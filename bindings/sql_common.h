@@ -205,7 +205,7 @@ static void sql_match(phone_handle *world, const sql_call *call, sql_answer *ans
     const uint8_t *first = phone_text(call->text.at, call->text.len);
     const uint8_t *second = phone_text(call->region.at, call->region.len);
     uint32_t told = 0;
-    phone_status status = phone_match_texts(world, first, call->text.len, second, call->region.len, &told);
+    phone_status status = phone_own_match_texts(world, first, call->text.len, second, call->region.len, &told);
     sql_begin(&answer->bytes);
     answer->kind = status == PHONE_OK ? SQL_TEXT : status == PHONE_MEMORY ? SQL_NO_MEMORY : SQL_NOTHING;
     answer->text = (sql_text){WORDS[told], strlen(WORDS[told])};

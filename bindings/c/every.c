@@ -11,6 +11,9 @@ static const char SHORT[] =
 static const char LAYOUTS[] =
     "[{\"id\": \"001\", \"country_code\": 1, \"general\": {\"national_number\": \"1\"}, "
     "\"formats\": [{\"pattern\": \"(\\\\d)(\\\\d+)\", \"format\": \"$1 $2\", \"national_prefix_formatting_rule\": \"($NP$FG)\"}]}]";
+static const char ALTERNATES[] =
+    "[{\"id\": \"001\", \"country_code\": 64, \"general\": {\"national_number\": \"\\\\d+\"}, "
+    "\"formats\": [{\"pattern\": \"(\\\\d)(\\\\d{4})(\\\\d{3})\", \"format\": \"$1 $2 $3\"}]}]";
 static uint8_t out[256];
 static size_t wrote;
 
@@ -176,10 +179,39 @@ static void of_dialling(phone_handle *world) {
     phone_close(&shorts);
 }
 
+/* A number with its letters, an example of a kind, and our own answers. */
+static void of_own(phone_handle *world) {
+    const char *line = "0800 FLOWERS";
+    uint8_t texts[64], flag = 9;
+    size_t len = 0;
+    uint32_t told = 99;
+    phone_handle shorts = PHONE_CLOSED;
+    phone_number number = number_of(world, "phone_parse", line, texts, &len), other;
+    memset(&other, 0, sizeof other);
+    text("phone_text_with_letters",
+         phone_text_with_letters(world, TEXT("NZ"), TEXT(line), &number, texts, len, out, sizeof out, &wrote));
+    text("phone_dialled_with_letters",
+         phone_dialled_with_letters(world, TEXT("AT"), TEXT(line), &number, texts, len, out, sizeof out, &wrote));
+    text("phone_extract", phone_extract(TEXT("Ring 03-331 6005!"), out, sizeof out, &wrote));
+    VALUE("phone_own_match_text", phone_own_match_text(world, &number, texts, len, TEXT("0064 800 3569377"), &told), told);
+    VALUE("phone_own_match_texts", phone_own_match_texts(world, TEXT("+64 3 331 6005"), TEXT("31 6005"), &told), told);
+    VALUE("phone_example_of_kind", phone_example_of_kind(world, PHONE_KIND_PAGER, &other, texts, sizeof texts, &len), other.value);
+    VALUE("phone_own_possibility", phone_own_possibility(world, PHONE_KIND_PAGER, &other, &told), told);
+    VALUE("phone_own_match_numbers", phone_own_match_numbers(&number, texts, len, &other, texts, len, &told), told);
+    VALUE("phone_reaches_from_abroad", phone_reaches_from_abroad(world, &other, &flag), flag);
+    VALUE("phone_open", phone_open(TEXT(SHORT), PHONE_LIBRARY, &shorts), 0);
+    number.value = 111;
+    VALUE("phone_known_cost", phone_known_cost(world, &shorts, &number, &told), told);
+    number.code = 1, number.value = 911;
+    text("phone_own_mobile_text", phone_own_mobile_text(world, TEXT("CA"), 0, &number, texts, len, out, sizeof out, &wrote));
+    phone_close(&shorts);
+}
+
 /* Where a number is, and the numbers in a text as libphonenumber finds them. */
 static void of_places(phone_handle *world) {
     phone_prefixes areas = PHONE_CLOSED, english = PHONE_CLOSED, carriers = PHONE_CLOSED, none = PHONE_CLOSED, zones = PHONE_CLOSED;
     phone_atlas german = PHONE_CLOSED;
+    phone_handle alternates = PHONE_CLOSED;
     phone_place places[2] = {{0, 0}, {0, 0}};
     uint8_t texts[64];
     size_t len = 0, line = 99;
@@ -206,6 +238,13 @@ static void of_places(phone_handle *world) {
     text("phone_atlas_close", phone_country_name(world, &german, &number, texts, len, out, sizeof out, &wrote));
     VALUE("phone_matches", phone_matches(world, TEXT("NZ"), PHONE_IF_VALID, 99, TEXT("3/10/2011: 03-331 6005"), places, 2, &len), len);
     printf("%u to %u\n", (unsigned)places[0].start, (unsigned)places[0].end);
+    VALUE("phone_open", phone_open(TEXT(ALTERNATES), PHONE_LIBRARY, &alternates), 0);
+    for (uint32_t each = PHONE_IF_POSSIBLE; each <= PHONE_IF_EXACT_GROUPING; each++) {
+        const char *two = "03 3316 005, 033 31 60 05";
+        VALUE("phone_matches", phone_matches(world, TEXT("NZ"), each, 99, TEXT(two), places, 2, &len), len);
+        VALUE("phone_matches_by", phone_matches_by(world, &alternates, TEXT("NZ"), each, 99, TEXT(two), places, 2, &len), len);
+    }
+    phone_close(&alternates);
 }
 
 /* The calls of tables of their own. */
@@ -249,6 +288,7 @@ int main(void) {
     of_columns(&mine);
     of_questions(&mine);
     of_dialling(&mine);
+    of_own(&mine);
     of_places(&mine);
     phone_close(&mine);
     of_tables();

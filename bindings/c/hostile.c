@@ -89,7 +89,7 @@ static phone_status narrow_columns(phone_handle *h, size_t room) {
 /* The calls, by a number, each on the same text; those up to ROOMS write to a buffer. Some are asked by the rules of
  * libphonenumber, behind a second handle on the table. */
 static phone_handle second = PHONE_CLOSED, own_layouts = PHONE_CLOSED, own_shorts = PHONE_CLOSED;
-enum { ROOMS = 33, CALLS = 53 };
+enum { ROOMS = 38, CALLS = 64 };
 static phone_status call(int which, phone_handle *h, const phone_number *n, const uint8_t *bytes, size_t len, size_t room) {
     const char *text = "+64 3 331 6005 ext. 12";
     phone_status status, kind = 99;
@@ -137,46 +137,67 @@ static phone_status call(int which, phone_handle *h, const phone_number *n, cons
     case 30: return phone_short_example(&own_shorts, B("NZ"), PHONE_COST_ANY, out, room, &wrote);
     case 31: return phone_example_of_code(h, 800, &number, out, room, &wrote);
     case 32: return phone_invalid_example(h, B("NZ"), &number, out, room, &wrote);
-    case 33: return status = phone_kind(h, n, &kind), kind == (status ? 99 : PHONE_KIND_FIXED_LINE) ? status : 98;
-    case 34: return status = phone_kind(&second, n, &kind), kind == (status ? 99 : PHONE_KIND_FIXED_LINE) ? status : 98;
-    case 35: return status = phone_is_valid(&second, n, &flag), flag == (status ? 99 : 1) ? status : 98;
-    case 36: return status = caret(h, "+6433316005", 4, &place), place == (status ? 99 : 5) ? status : 98;
-    case 37: return status = phone_possibility(&second, n, &kind), kind == (status ? 99 : PHONE_LENGTH_POSSIBLE) ? status : 98;
-    case 38:
+    case 33: return phone_text_with_letters(h, B("DE"), B("03-331 600J"), n, bytes, len, out, room, &wrote);
+    case 34: return phone_dialled_with_letters(h, B("DE"), B("0DDD-16005"), n, bytes, len, out, room, &wrote);
+    case 35: return phone_extract((const uint8_t *)text, strlen(text), out, room, &wrote);
+    case 36: return phone_example_of_kind(h, PHONE_KIND_PAGER, &number, out, room, &wrote);
+    case 37: return phone_own_mobile_text(h, B("NZ"), 1, n, bytes, len, out, room, &wrote);
+    case 38: return status = phone_kind(h, n, &kind), kind == (status ? 99 : PHONE_KIND_FIXED_LINE) ? status : 98;
+    case 39: return status = phone_kind(&second, n, &kind), kind == (status ? 99 : PHONE_KIND_FIXED_LINE) ? status : 98;
+    case 40: return status = phone_is_valid(&second, n, &flag), flag == (status ? 99 : 1) ? status : 98;
+    case 41: return status = caret(h, "+6433316005", 4, &place), place == (status ? 99 : 5) ? status : 98;
+    case 42: return status = phone_possibility(&second, n, &kind), kind == (status ? 99 : PHONE_LENGTH_POSSIBLE) ? status : 98;
+    case 43:
         status = phone_text_possibility(h, B("NZ"), B("03-33"), &kind);
         return kind == (status ? 99 : PHONE_LENGTH_TOO_SHORT) ? status : 98;
-    case 39:
+    case 44:
         status = phone_compare(&second, B("331 6005"), (const uint8_t *)text, strlen(text), &kind);
         return kind == (status ? 99 : PHONE_MATCH_END) ? status : 98;
-    case 40:
+    case 45:
         status = phone_about_number(h, n, &facts);
         return facts.destination_length == (status ? 99 : 1) ? status : 98;
-    case 41: return status = phone_is_valid_for(h, B("NZ"), n, &flag), flag == (status ? 99 : 1) ? status : 98;
-    case 42:
+    case 46: return status = phone_is_valid_for(h, B("NZ"), n, &flag), flag == (status ? 99 : 1) ? status : 98;
+    case 47:
         status = phone_possibility_as(h, PHONE_KIND_MOBILE, n, &kind);
         return kind == (status ? 99 : PHONE_LENGTH_POSSIBLE) ? status : 98;
-    case 43:
+    case 48:
         longer.value = longer.value * 10 + 9;
         status = phone_truncate(h, &longer, &flag);
         return longer.value == (status ? n->value * 10 + 9 : n->value) && flag == (status ? 99 : 1) ? status : 98;
-    case 44:
+    case 49:
         status = phone_match_numbers(n, bytes, len, n, bytes, len, &kind);
         return kind == (status ? 99 : PHONE_EXACT_MATCH) ? status : 98;
-    case 45:
+    case 50:
         status = phone_match_text(h, n, bytes, len, B("03-331 6005"), &kind);
         return kind == (status ? 99 : PHONE_SHORT_NSN_MATCH) ? status : 98;
-    case 46:
+    case 51:
         status = phone_match_texts(&second, B("331 6005"), (const uint8_t *)text, strlen(text), &kind);
         return kind == (status ? 99 : PHONE_SHORT_NSN_MATCH) ? status : 98;
-    case 47: return status = phone_about_region(h, B("NZ"), &region), region.code == (status ? 99 : 64) ? status : 98;
-    case 48: return status = phone_is_geographical(PHONE_KIND_MOBILE, 54, &flag), flag == (status ? 99 : 1) ? status : 98;
-    case 49: return status = phone_has_letters(B("1-800-FLOWERS"), &flag), flag == (status ? 99 : 1) ? status : 98;
-    case 50:
+    case 52: return status = phone_about_region(h, B("NZ"), &region), region.code == (status ? 99 : 64) ? status : 98;
+    case 53: return status = phone_is_geographical(PHONE_KIND_MOBILE, 54, &flag), flag == (status ? 99 : 1) ? status : 98;
+    case 54: return status = phone_has_letters(B("1-800-FLOWERS"), &flag), flag == (status ? 99 : 1) ? status : 98;
+    case 55:
         status = phone_short_anywhere(h, &own_shorts, n, &anywhere);
         return anywhere.cost == (status ? 99 : PHONE_COST_UNKNOWN) ? status : 98;
-    case 51:
+    case 56:
         status = phone_is_sms_service(h, &own_shorts, B("NZ"), n, &flag);
         return flag == (status ? 99 : 0) ? status : 98;
+    case 57: return status = phone_reaches_from_abroad(h, n, &flag), flag == (status ? 99 : 1) ? status : 98;
+    case 58:
+        status = phone_known_cost(h, &own_shorts, n, &kind);
+        return kind == (status ? 99 : PHONE_COST_UNKNOWN) ? status : 98;
+    case 59:
+        status = phone_own_possibility(h, PHONE_KIND_MOBILE, n, &kind);
+        return kind == (status ? 99 : PHONE_LENGTH_POSSIBLE) ? status : 98;
+    case 60:
+        status = phone_own_match_numbers(n, bytes, len, n, bytes, len, &kind);
+        return kind == (status ? 99 : PHONE_EXACT_MATCH) ? status : 98;
+    case 61:
+        status = phone_own_match_text(h, n, bytes, len, B("03-331 6005"), &kind);
+        return kind == (status ? 99 : PHONE_SHORT_NSN_MATCH) ? status : 98;
+    case 62:
+        status = phone_own_match_texts(&second, B("331 6005"), (const uint8_t *)text, strlen(text), &kind);
+        return kind == (status ? 99 : PHONE_SHORT_NSN_MATCH) ? status : 98;
     default: return status = phone_is_valid(h, n, &flag), flag == (status ? 99 : 1) ? status : 98;
     }
 }
@@ -503,72 +524,7 @@ static int questions(void) {
     CHECK(1109, blocks == 0);
     return 0;
 }
-static int dialling(void) {
-    phone_handle h = PHONE_CLOSED, own = PHONE_CLOSED;
-    phone_number n = {2345678, {0, 0, 0}, {0, 0, 0}, 64, PHONE_SOURCE_PLUS, 0}, bad = n, apart = n;
-    phone_facts_anywhere facts = {9, 9, 9, 9};
-    bad.source = 4, apart.extension.is_there = 1, apart.extension.start = 9;
-    fill();
-    CHECK(1800, phone_format_read(&h, 4, B("\xff"), &bad, B(""), out, 9, &wrote) == PHONE_IS_CLOSED && wrote == 0);
-    CHECK(1801, phone_mobile_text(&h, B("\xff"), 0, B(""), &bad, B(""), out, 9, &wrote) == PHONE_IS_CLOSED && wrote == 0);
-    CHECK(1802, phone_text_from(&h, B("xx"), B("\xff"), &bad, B(""), out, 9, &wrote) == PHONE_IS_CLOSED && wrote == 0);
-    CHECK(1803, phone_original_text(&h, B("xx"), B("\xff"), &bad, B(""), out, 9, &wrote) == PHONE_IS_CLOSED && wrote == 0);
-    CHECK(1804, phone_format_by(&h, &own, 4, &bad, B(""), out, 9, &wrote) == PHONE_IS_CLOSED && wrote == 0);
-    CHECK(1805, phone_short_anywhere(&h, &own, &bad, &facts) == PHONE_IS_CLOSED && facts.cost == 9);
-    CHECK(1806, phone_short_example(&h, B("xx"), 5, out, 9, &wrote) == PHONE_IS_CLOSED && wrote == 0);
-    CHECK(1807, phone_open(B(REGION), PHONE_CRATE, &h) == PHONE_OK);
-    CHECK(1808, phone_format_by(&h, &own, 4, &bad, B(""), out, 9, &wrote) == PHONE_IS_CLOSED && wrote == 0);
-    CHECK(1809, phone_format_by(&own, &h, 4, &bad, B(""), out, 9, &wrote) == PHONE_IS_CLOSED && wrote == 0);
-    CHECK(1810, phone_short_anywhere(&h, &own, &bad, &facts) == PHONE_IS_CLOSED && facts.cost == 9);
-    CHECK(1811, phone_format_read(&h, 4, B("\xff"), &bad, B(""), out, 9, &wrote) == PHONE_NO_MODE && wrote == 0);
-    CHECK(1812, phone_format_read(&h, 3, B("\xff"), &bad, B(""), out, 9, &wrote) == PHONE_NOT_UTF8 && wrote == 0);
-    CHECK(1813, phone_format_read(&h, 3, B(""), &apart, B(""), out, 9, &wrote) == PHONE_BAD_NUMBER && wrote == 0);
-    CHECK(1814, phone_mobile_text(&h, B("\xff"), 0, B(""), &bad, B(""), out, 9, &wrote) == PHONE_NOT_UTF8);
-    CHECK(1815, phone_mobile_text(&h, B("NZ"), 0, B("\xff"), &bad, B(""), out, 9, &wrote) == PHONE_NOT_UTF8);
-    CHECK(1816, phone_mobile_text(&h, B("xx"), 0, B(""), &bad, B(""), out, 9, &wrote) == PHONE_BAD_NUMBER);
-    CHECK(1817, phone_text_from(&h, B("xx"), B("\xff"), &bad, B(""), out, 9, &wrote) == PHONE_NO_REGION);
-    CHECK(1818, phone_text_from(&h, phone_text(NULL, 0), 0, B("\xff"), &bad, B(""), out, 9, &wrote) == PHONE_NOT_UTF8);
-    CHECK(1819, phone_text_from(&h, B("NZ"), B(""), &apart, B(""), out, 9, &wrote) == PHONE_BAD_NUMBER);
-    CHECK(1820, phone_original_text(&h, B("xx"), B("\xff"), &bad, B(""), out, 9, &wrote) == PHONE_NO_REGION);
-    CHECK(1821, phone_original_text(&h, B("NZ"), B("\xff"), &bad, B(""), out, 9, &wrote) == PHONE_NOT_UTF8);
-    CHECK(1822, phone_original_text(&h, B("NZ"), B(""), &bad, B(""), out, 9, &wrote) == PHONE_BAD_NUMBER && is_untouched(0));
-    CHECK(1823, phone_mobile_text(&h, B("US"), 0, B(""), &n, B(""), out, 10, &wrote) == PHONE_OK && is_untouched(wrote)
-        && !memcmp(out, "+642345678", 10));
-    fill();
-    CHECK(1824, phone_original_text(&h, B(""), B("call me"), &n, B(""), out, 9, &wrote) == PHONE_OK && wrote == 7
-        && !memcmp(out, "call me", 7) && is_untouched(7));
-    CHECK(1825, phone_open(B(LAYOUTS), PHONE_CRATE, &own) == PHONE_OK);
-    CHECK(1826, phone_format_by(&h, &own, 4, &bad, B(""), out, 9, &wrote) == PHONE_NO_MODE && wrote == 0);
-    CHECK(1827, phone_format_by(&h, &own, 2, &apart, B(""), out, 9, &wrote) == PHONE_BAD_NUMBER && wrote == 0);
-    CHECK(1828, phone_format_by(&h, &own, 2, &n, B(""), out, 9, &wrote) == PHONE_OK && wrote == 8 && !memcmp(out, "2-345678", 8));
-    n.code = 65;
-    CHECK(1829, phone_format_by(&h, &own, 0, &n, B(""), out, 9, &wrote) == PHONE_OK && wrote == 7 && !memcmp(out, "2345678", 7));
-    CHECK(1830, phone_open(B(SHORT), PHONE_CRATE, &own) == PHONE_OK);
-    CHECK(1831, phone_short_anywhere(&h, &own, &bad, &facts) == PHONE_BAD_NUMBER && facts.cost == 9);
-    n.code = 64, n.value = 111;
-    CHECK(1832, phone_short_anywhere(&h, &own, &n, &facts) == PHONE_OK && facts.cost == PHONE_COST_TOLL_FREE
-        && facts.is_possible == 1 && facts.is_valid == 1 && facts.is_carrier_specific == 0);
-    CHECK(1833, phone_short_example(&own, B("xx"), 5, out, 9, &wrote) == PHONE_NO_REGION && wrote == 0);
-    CHECK(1834, phone_short_example(&own, B("NZ"), 5, out, 9, &wrote) == PHONE_NO_WORD && wrote == 0);
-    CHECK(1835, phone_short_example(&own, B("NZ"), PHONE_COST_UNKNOWN, out, 9, &wrote) == PHONE_NO_EXAMPLE && wrote == 0);
-    CHECK(1836, phone_short_example(&own, B("US"), PHONE_COST_ANY, out, 9, &wrote) == PHONE_NO_EXAMPLE && wrote == 0);
-    uint8_t flag = 9;
-    CHECK(1837, phone_is_sms_service(&h, &own, B("xx"), &bad, &flag) == PHONE_NO_REGION && flag == 9);
-    CHECK(1838, phone_is_sms_service(&h, &own, B("NZ"), &bad, &flag) == PHONE_BAD_NUMBER && flag == 9);
-    CHECK(1839, phone_is_sms_service(&h, &own, B("NZ"), &n, &flag) == PHONE_OK && flag == 1);
-    CHECK(1840, phone_is_sms_service(&h, &own, B("US"), &n, &flag) == PHONE_OK && flag == 0);
-    CHECK(1841, phone_example_of_code(&h, 800, &bad, out, 9, &wrote) == PHONE_NO_EXAMPLE && wrote == 0 && bad.source == 4);
-    CHECK(1842, phone_invalid_example(&h, B("xx"), &bad, out, 9, &wrote) == PHONE_NO_REGION && wrote == 0 && bad.source == 4);
-    CHECK(1843, phone_invalid_example(&h, B("US"), &bad, out, 9, &wrote) == PHONE_NO_EXAMPLE && wrote == 0 && bad.source == 4);
-    phone_close(&h);
-    CHECK(1844, phone_example_of_code(&h, 800, &bad, out, 9, &wrote) == PHONE_IS_CLOSED && wrote == 0);
-    CHECK(1845, phone_invalid_example(&h, B("xx"), &bad, out, 9, &wrote) == PHONE_IS_CLOSED && wrote == 0);
-    CHECK(1846, phone_is_sms_service(&h, &own, B("xx"), &bad, &flag) == PHONE_IS_CLOSED && flag == 0);
-    CHECK(1847, phone_is_sms_service(&own, &h, B("xx"), &bad, &flag) == PHONE_IS_CLOSED && flag == 0);
-    phone_close(&own);
-    CHECK(1848, blocks == 0);
-    return 0;
-}
+#include "hostile_dialling.h"
 static phone_status word(uint32_t set, uint32_t value, size_t room) {
     return set == 6 ? phone_status_words(value, out, room, &wrote) : phone_word(set, value, out, room, &wrote);
 }
@@ -694,7 +650,7 @@ static phone_status carrier(phone_handle *h, phone_atlas *atlas, size_t room) {
     return phone_carrier(h, atlas, &number, phone_text(NULL, 0), 0, 1, out, room, &wrote);
 }
 static int atlases(void) {
-    phone_handle h = PHONE_CLOSED;
+    phone_handle h = PHONE_CLOSED, other = PHONE_CLOSED;
     phone_prefixes p[4] = {PHONE_CLOSED, PHONE_CLOSED, PHONE_CLOSED, PHONE_CLOSED}, zones = PHONE_CLOSED;
     phone_atlas atlas = PHONE_CLOSED;
     size_t line = 9;
@@ -737,6 +693,21 @@ static int atlases(void) {
     CHECK(1217, phone_matches(&h, B(""), 9, 9, B("+999 234"), places, PLACES, &wrote) == PHONE_NO_LENIENCY && wrote == 0);
     CHECK(1218, phone_matches(&h, B(""), 0, 9, B("+999 234"), places, 0, &wrote) == PHONE_TOO_SMALL && wrote == 1);
     CHECK(1219, phone_matches(&h, B(""), 0, 9, B("\xff"), places, 0, &wrote) == PHONE_NOT_UTF8 && wrote == 0);
+    CHECK(1230, phone_matches_by(&h, &other, B("zz"), 9, 9, B("\xff"), places, PLACES, &wrote) == PHONE_IS_CLOSED && h.at && wrote == 0);
+    CHECK(1231, phone_matches_by(&other, &h, B("zz"), 9, 9, B("\xff"), places, PLACES, &wrote) == PHONE_IS_CLOSED && h.at && wrote == 0);
+    CHECK(1232, phone_open(B(LAYOUTS), PHONE_CRATE, &other) == PHONE_OK);
+    CHECK(1233, phone_matches_by(&h, &other, B("zz"), 4, 9, B("\xff"), places, PLACES, &wrote) == PHONE_NO_LENIENCY && wrote == 0);
+    CHECK(1234, phone_matches_by(&h, &other, B("zz"), 3, 9, B("\xff"), places, PLACES, &wrote) == PHONE_NO_REGION && wrote == 0);
+    CHECK(1235, phone_matches_by(&h, &other, B(""), 3, 9, B("\xff"), places, PLACES, &wrote) == PHONE_NOT_UTF8 && wrote == 0);
+    CHECK(1236, phone_matches_by(&h, &other, B(""), 0, 9, B("+999 234"), places, 0, &wrote) == PHONE_TOO_SMALL && wrote == 1);
+    for (long k = 0;; k++) {
+        requests = 0, refuse_at = k;
+        phone_status status = phone_matches_by(&h, &other, B(""), 0, 9, B("+999 234"), places, PLACES, &wrote);
+        refuse_at = -1;
+        CHECK(1237, h.at && other.at && (status == PHONE_OK ? wrote == 1 : requests > k && status == PHONE_MEMORY && wrote == 0));
+        if (requests <= k) break;
+    }
+    phone_close(&other);
     phone_close(&h);
     CHECK(1220, carrier(&h, &atlas, 9) == PHONE_IS_CLOSED && atlas.at);
     phone_atlas_close(&atlas);
@@ -747,7 +718,7 @@ int main(int argc, char **argv) {
     long rounds = argc > 2 ? atol(argv[2]) : 100, most = 0;
     int wrong;
     if ((wrong = small()) || (wrong = by_rules()) || (wrong = typing()) || (wrong = shorts()) || (wrong = prefixes())
-        || (wrong = possible()) || (wrong = listed()) || (wrong = questions()) || (wrong = dialling()) || (wrong = words()) || (wrong = layouts())
+        || (wrong = possible()) || (wrong = listed()) || (wrong = questions()) || (wrong = dialling()) || (wrong = lettered()) || (wrong = words()) || (wrong = layouts())
         || (wrong = world_in_library()) || (wrong = atlases())
         || (wrong = shared())) return wrong;
     CHECK(100, phone_version() == PHONE_VERSION);

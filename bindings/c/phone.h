@@ -189,8 +189,14 @@ enum {
     PHONE_FORM_DIALLABLE = 2 /* its digits from 0 to 9, plus signs, stars and number signs; nothing else */
 };
 
-/* What is found in a text: what is parsed as a possible number, or as a valid one. */
-enum { PHONE_IF_POSSIBLE = 0, PHONE_IF_VALID = 1 };
+/* What is found in a text: what is parsed as a possible number, or as a valid one; of phone_matches and
+ * phone_matches_by also what is valid and has the groups of digits of a format in their order, or exactly. */
+enum {
+    PHONE_IF_POSSIBLE = 0,
+    PHONE_IF_VALID = 1,
+    PHONE_IF_STRICT_GROUPING = 2,
+    PHONE_IF_EXACT_GROUPING = 3
+};
 
 /* Where a number stands in a text, in bytes: from `start` to before `end`. */
 typedef struct { size_t start; size_t end; } phone_place;
@@ -672,14 +678,21 @@ phone_status phone_time_zones(phone_handle *handle, phone_prefixes *zones, const
                               const uint8_t *bytes, size_t bytes_len, uint8_t as_it_stands, uint8_t *out,
                               size_t out_len, size_t *wrote);
 
-/* Writes where numbers stand in a text as libphonenumber finds them; a leniency of 2 asks for the groups of
- * a format in their order, 3 for no other groups, both without libphonenumber's alternate formats; `tries`
- * is how many candidates and pieces without a number are looked at. phone_parse parses each of these
- * pieces, with the same default region and by libphonenumber's rules, as the number that was found. Places
- * and statuses are as of phone_find. */
+/* Writes where numbers stand in a text as libphonenumber finds them, but that the two leniencies that look at
+ * groups have no alternate formats, which phone_matches_by has; `tries` is how many candidates and pieces
+ * without a number are looked at. phone_parse parses each of these pieces, with the same default region and by
+ * libphonenumber's rules, as the number that was found. Places and statuses are as of phone_find. */
 phone_status phone_matches(phone_handle *handle, const uint8_t *hint, size_t hint_len, uint32_t leniency,
                            uint64_t tries, const uint8_t *text, size_t text_len, phone_place *out,
                            size_t out_len, size_t *wrote);
+
+/* The same by alternate formats, so that all of libphonenumber's leniencies are its own: `alternates` is a
+ * second handle, opened on a database of such (data/alternates.json is one), whose records are each of a calling
+ * code and have its further `formats`. PHONE_IS_CLOSED exactly where nothing is open behind one of the handles;
+ * all else as of phone_matches. */
+phone_status phone_matches_by(phone_handle *handle, phone_handle *alternates, const uint8_t *hint,
+                              size_t hint_len, uint32_t leniency, uint64_t tries, const uint8_t *text,
+                              size_t text_len, phone_place *out, size_t out_len, size_t *wrote);
 
 /* Writes the E.164 text of a number, a key for tables. It needs no database. Equal texts mean
  * equal calling code and national number where no calling code of the database begins another, as in
@@ -812,6 +825,76 @@ phone_status phone_example_of_code(phone_handle *handle, uint16_t code, phone_nu
  * region's id; PHONE_NO_EXAMPLE only where there is no such number; PHONE_TOO_SMALL, PHONE_MEMORY. */
 phone_status phone_invalid_example(phone_handle *handle, const uint8_t *region, size_t region_len,
                                    phone_number *number, uint8_t *out, size_t out_len, size_t *wrote);
+
+/* Numbers with the letters in which they were written, an example of a kind, and our own answers where
+ * libphonenumber's mislead: whatever the rules of the handle. */
+
+/* Writes how a number is dialled from a region with the letters of `raw`, as libphonenumber has it: of that
+ * text what follows the place where the number's first three digits stand. Without `raw` it is written as
+ * phone_text_from does. Its statuses are those of phone_text_from. */
+phone_status phone_text_with_letters(phone_handle *handle, const uint8_t *region, size_t region_len,
+                                     const uint8_t *raw, size_t raw_len, const phone_number *number,
+                                     const uint8_t *bytes, size_t bytes_len, uint8_t *out, size_t out_len,
+                                     size_t *wrote);
+
+/* Writes the same by our own answer: the end of `raw` whose letters and digits are the number's, so that what
+ * is dialled reaches it; without three letters, or such an end, as phone_text_from does without `raw`. Its
+ * statuses are those of phone_text_from. */
+phone_status phone_dialled_with_letters(phone_handle *handle, const uint8_t *region, size_t region_len,
+                                        const uint8_t *raw, size_t raw_len, const phone_number *number,
+                                        const uint8_t *bytes, size_t bytes_len, uint8_t *out,
+                                        size_t out_len, size_t *wrote);
+
+/* Writes the part of a text in which a number may stand: from its first digit or plus sign on, up to a second
+ * number, without what can't end a number; no byte where there is none. It needs no database and takes no
+ * memory. PHONE_NOT_UTF8 exactly where the text isn't UTF-8; PHONE_TOO_SMALL as phone_report has it. */
+phone_status phone_extract(const uint8_t *text, size_t text_len, uint8_t *out, size_t out_len,
+                           size_t *wrote);
+
+/* Writes the example of a kind, of the lowest calling code that has one, as phone_parse writes a number, by
+ * libphonenumber's rules; of a code that serves no region only where no region has one. PHONE_IS_CLOSED exactly
+ * where nothing is open, else PHONE_NO_KIND exactly where the kind is above 16; PHONE_NO_EXAMPLE only where the
+ * database gives none; 1 to 6: why the example is no number; PHONE_TOO_SMALL, PHONE_MEMORY. */
+phone_status phone_example_of_kind(phone_handle *handle, uint32_t kind, phone_number *number, uint8_t *out,
+                                   size_t out_len, size_t *wrote);
+
+/* Writes what a mobile phone dials to reach a number, as phone_mobile_text does: but each region of its calling
+ * code is at home for it, as CA for +1 911. PHONE_IS_CLOSED exactly where nothing is open, else PHONE_NOT_UTF8
+ * exactly where `id` isn't UTF-8, else PHONE_BAD_NUMBER as phone_format has it; PHONE_TOO_SMALL,
+ * PHONE_MEMORY. */
+phone_status phone_own_mobile_text(phone_handle *handle, const uint8_t *id, size_t id_len,
+                                   uint8_t with_symbols, const phone_number *number, const uint8_t *bytes,
+                                   size_t bytes_len, uint8_t *out, size_t out_len, size_t *wrote);
+
+/* Tells whether a number can be dialled from abroad, 1, else 0: a valid one, unless its region says that it is
+ * dialled at home alone. Its statuses are those of phone_kind. For each but PHONE_OK `told` is as it was. */
+phone_status phone_reaches_from_abroad(phone_handle *handle, const phone_number *number, uint8_t *told);
+
+/* Tells what a number costs as a short number, PHONE_COST_PREMIUM_RATE .., as phone_short_anywhere does: but
+ * only in the regions that know it. Its statuses are those of phone_short_anywhere. For each but PHONE_OK `told`
+ * is as it was. */
+phone_status phone_known_cost(phone_handle *handle, phone_handle *shorts, const phone_number *number,
+                              uint32_t *told);
+
+/* Tells what the count of a number's digits says of it as a number of a kind, as phone_possibility_as does: but
+ * of a valid number by the lengths of its own region. Its statuses are those of phone_possibility_as. */
+phone_status phone_own_possibility(phone_handle *handle, uint32_t kind, const phone_number *number,
+                                   uint32_t *told);
+
+/* Tells how like two numbers are, as phone_match_numbers does: but the national number of one is an end of the
+ * other's from seven digits on, its leading zeros included. Its statuses are those of phone_match_numbers. */
+phone_status phone_own_match_numbers(const phone_number *first, const uint8_t *first_bytes,
+                                     size_t first_bytes_len, const phone_number *second,
+                                     const uint8_t *second_bytes, size_t second_bytes_len, uint32_t *told);
+
+/* The same of a number and a text, as phone_match_text does; a match is exact as well where the text has the
+ * calling code behind an international prefix. Its statuses are those of phone_match_text. */
+phone_status phone_own_match_text(phone_handle *handle, const phone_number *number, const uint8_t *bytes,
+                                  size_t bytes_len, const uint8_t *text, size_t text_len, uint32_t *told);
+
+/* The same of two texts. Its statuses are those of phone_match_texts. */
+phone_status phone_own_match_texts(phone_handle *handle, const uint8_t *first, size_t first_len,
+                                   const uint8_t *second, size_t second_len, uint32_t *told);
 
 #ifdef __cplusplus
 }

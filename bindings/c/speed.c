@@ -1,5 +1,5 @@
-/* Columns of lines beside the calls for one text: speed TABLE LINES [THREADS [STRETCH]]. LINES has a region, `-` for none, a tab and a
- * text on each line. Stretches of rows are asked in turn by phone_columns and by the calls for one text, by one thread, whose processor
+/* Columns of lines beside the calls for one text: speed TABLE LINES [THREADS [STRETCH [ANSWERS]]]. LINES has a region, `-` for none, a tab
+ * and a text on each line. Where ANSWERS, of tools/million-lines, are named, columns of all lines are compared with them first. Stretches of rows are asked in turn by phone_columns and by the calls for one text, by one thread, whose processor
  * time is told: the middle of each, and the middle of their ratio, of all columns and of E.164 alone. Then all rows are asked by THREADS
  * threads on one table, and by as many processes with a table each, in turn, five times: the clock's middle of each. Each answer of
  * phone_columns is compared with that of the calls. The last line is `speed: ok`. */
@@ -64,6 +64,7 @@ static void lay_out(const char *path) {
     }
 }
 
+static const uint32_t ALL[COLUMNS] = {0, 1, 2, 3, 4, 5, 6, 7, 8, 9, 10, 11, 12};
 /* The columns of rows, from one on; how many bytes they take. */
 static size_t by_column(phone_handle *world, const uint32_t *columns, size_t count, size_t from, size_t n, phone_place *places, uint8_t *out, size_t room) {
     phone_texts own = phone_texts_of(offsets + from, n, bytes, NULL, 0), with = phone_texts_of(hint_offsets + from, n, hint_bytes, NULL, 0);
@@ -94,6 +95,37 @@ static void by_calls(phone_handle *world, size_t from, size_t n, uint32_t modes,
     }
 }
 
+/* What columns tell of each row is its line of the answers. */
+static void compare(phone_handle *world, const char *path) {
+    size_t len, row = 0, room = 400 * stretch + 1024;
+    uint8_t *answers = read_all(path, &len), *at = answers, *out = memory(room), line[2048], word[64];
+    phone_place places[2 * COLUMNS] = {{0, 0}};
+    for (size_t from = 0; from < rows; from += stretch) {
+        size_t n = rows - from < stretch ? rows - from : stretch, wrote;
+        by_column(world, ALL, COLUMNS, from, n, places, out, room);
+        for (size_t i = 0; i < n; i++, row++) {
+            uint8_t *to = line, *region = out + places[MODES + PHONE_COLUMN_REGION].start + 2 * i;
+            for (int mode = 0; mode < MODES; mode++) {
+                uint64_t ends[2];
+                memcpy(ends, out + places[2 * mode].start + 8 * i, sizeof ends);
+                if (ends[1] - ends[0] > ROOM) puts("speed: a text is too long"), exit(1);
+                memcpy(to, out + places[2 * mode + 1].start + ends[0], ends[1] - ends[0]);
+                to += ends[1] - ends[0], *to++ = '\t';
+            }
+            phone_word(PHONE_KIND_WORDS, out[places[MODES + PHONE_COLUMN_KIND].start + i], word, sizeof word, &wrote);
+            to += sprintf((char *)to, "%.*s\t%.*s\t%s\n", (int)wrote, (char *)word, *region ? 2 : 1, *region ? (char *)region : "-",
+                          out[places[MODES + PHONE_COLUMN_VALIDITY].start + i] ? "valid" : "invalid");
+            if (!(out[places[MODES + PHONE_COLUMN_IS_NUMBER].start + i / 8] >> i % 8 & 1)) to = line + sprintf((char *)line, "error\n");
+            if ((size_t)(answers + len - at) < (size_t)(to - line) || memcmp(at, line, (size_t)(to - line)))
+                printf("speed: line %lu has another answer\n", (unsigned long)row + 1), exit(1);
+            at += to - line;
+        }
+    }
+    if (at != answers + len) puts("speed: there are more answers"), exit(1);
+    printf("lines: %lu\n", (unsigned long)row);
+    free(answers), free(out);
+}
+
 static void in_turn(phone_handle *world, const char *what, const uint32_t *columns, size_t count, uint32_t modes) {
     size_t turns = rows / stretch < 200 ? rows / stretch : 200, room = 400 * stretch + 1024;
     double *column = memory(8 * turns), *calls = memory(8 * turns), *ratio = memory(8 * turns);
@@ -115,7 +147,6 @@ static void in_turn(phone_handle *world, const char *what, const uint32_t *colum
     free(column), free(calls), free(ratio), free(out);
 }
 
-static const uint32_t ALL[COLUMNS] = {0, 1, 2, 3, 4, 5, 6, 7, 8, 9, 10, 11, 12};
 typedef struct { phone_handle world; long part; } share;
 static void *works(void *it) {
     share *mine = it;
@@ -169,12 +200,13 @@ static double by_processes(void) {
 int main(int count, char **words) {
     static const uint32_t E164[] = {PHONE_COLUMN_E164};
     phone_handle world = PHONE_CLOSED;
-    if (count < 3) return puts("speed TABLE LINES [THREADS [STRETCH]]"), 2;
+    if (count < 3) return puts("speed TABLE LINES [THREADS [STRETCH [ANSWERS]]]"), 2;
     table = read_all(words[1], &table_len);
     lay_out(words[2]);
     if (count > 3) threads = atol(words[3]);
     if (count > 4) stretch = (size_t)atol(words[4]);
     if (rows < stretch || stretch > MOST || phone_open(table, table_len, PHONE_LIBRARY, &world) != PHONE_OK) return puts("speed: no rows"), 1;
+    if (count > 5) compare(&world, words[5]);
     in_turn(&world, "all", ALL, COLUMNS, MODES);
     in_turn(&world, "E.164", E164, 1, 1);
     double inside[TURNS], beside[TURNS], ratio[TURNS];

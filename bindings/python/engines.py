@@ -3,12 +3,13 @@
 LINES and ANSWERS are those of tools/million-lines. ENGINES are some of `list numpy pandas arrow dask`, one word, with commas between; those
 whose package isn't there are told of and left out. Each engine's rows are compared with ANSWERS. Told are the seconds of each by one thread
 and by N, for lists and Arrow in turn with those of N processes that have a part each; and what the calls for one text would take, by
-stretches of rows that they and lists are asked in turn. Times are of the processor where one thread works, else of the clock. The last line
-is `engines: ok`.
+stretches of rows that they and lists are asked in turn. Times are of the processor where one thread works, else of the clock; TURNS in the
+environment is how often each is timed, 3 times where it isn't set. The last line is `engines: ok`.
 """
 
 import importlib.util
 import multiprocessing
+import os
 import sys
 import threading
 import time
@@ -18,7 +19,7 @@ from phonenumber_proved import Database, Kind, Mode, NoNumber, UnknownRegion
 
 COLUMNS = ("e164", "international", "national", "rfc3966", "kind", "region", "validity", "is_number")
 STRETCH = 1000
-TURNS = 3
+TURNS = int(os.environ.get("TURNS", "3"))
 # So many seconds a process is waited for.
 WAIT = 600
 failed = []

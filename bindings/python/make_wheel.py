@@ -31,7 +31,7 @@ NAME = "phonenumber_proved"
 # Where the tables and the licence are: in the repository, or in a source distribution.
 DATA = HERE / "data" if (HERE / "data").is_dir() else TOP / "data"
 OWN_LICENCE = HERE / "LICENSE" if (HERE / "LICENSE").is_file() else TOP / "LICENSE"
-TABLES = ["world.json", "world.compact", "short.json", "sms.json", "timezones.tsv", "areas.tsv", "carriers.tsv", "VERSION"]
+TABLES = ["world.json", "world.compact", "short.json", "sms.json", "alternates.json", "timezones.tsv", "areas.tsv", "carriers.tsv", "VERSION"]
 # Areas, carriers and names of regions by language, and the licence of the names.
 TABLES += sorted(str(it.relative_to(DATA)) for it in (DATA / "places").rglob("*") if it.is_file())
 CLASSIFIERS = """Development Status :: 4 - Beta

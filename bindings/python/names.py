@@ -75,6 +75,9 @@ MATCHES = [
 FOUND = [
     ("Ring 03-331 6005, or +1 650 253 0000", "NZ", Leniency.VALID, [(5, "03-331 6005", 33316005), (21, "+1 650 253 0000", 6502530000)]),
     ("Z\u00fcrich \U0001f4a9 +41 44 668 18 00", None, Leniency.VALID, [(9, "+41 44 668 18 00", 446681800)]),
+    ("033 31 60 05", "NZ", Leniency.VALID, [(0, "033 31 60 05", 33316005)]), ("033 31 60 05", "NZ", Leniency.STRICT_GROUPING, []),
+    ("03 3316 005, 033 31 60 05", "NZ", Leniency.EXACT_GROUPING, [(0, "03 3316 005", 33316005)]),
+    ("03 331 6005, 03 3316005", "NZ", Leniency.EXACT_GROUPING, [(0, "03 331 6005", 33316005)]),
     ("+1 650 253 000", "US", Leniency.VALID, []), ("no number", "ZZ", Leniency.POSSIBLE, []), (None, "US", Leniency.VALID, []),
 ]
 
@@ -139,7 +142,7 @@ def numbers_are_compared_and_found():
         matcher = names.PhoneNumberMatcher(text, region, leniency)
         check(text, [(it.start, it.raw_string, it.number.national_number) for it in matcher], found)
         check(text, (matcher.has_next(), len(list(matcher))), (False, 0))
-    for wrong in (dict(leniency=2), dict(leniency=None), dict(max_tries=-1)):
+    for wrong in (dict(leniency=4), dict(leniency=None), dict(max_tries=-1)):
         try:
             check(wrong, names.PhoneNumberMatcher("", None, **wrong), "a refusal")
         except ValueError:
@@ -200,6 +203,13 @@ MOBILES = [
 ]
 
 
+# Region, text: the region where it is dialled, and what is dialled with its letters.
+LETTERS = [
+    ("US", "1-800-FLOWERS", "NZ", "00 1 800-FLOWERS"), ("US", "1-800-FLOWERS", "CA", "1 800-FLOWERS"), ("NZ", "0800 FLOWERS", "NZ", "0800 FLOWERS"),
+    ("NZ", "0800 FLOWERS", "UA", "00 64 800 FLOWERS"), ("NZ", "03 331 6005", "NZ", "003 331 6005"),
+]
+
+
 def numbers_are_dialled():
     for hint, text, region, wanted in ORIGINALS:
         number = names.parse(text, hint, keep_raw_input=True)
@@ -212,6 +222,14 @@ def numbers_are_dialled():
     told = [names.format_by_pattern(PhoneNumber(64, 33316005), it, [own]) for it in range(4)]
     check("layouts", told, ["+643 3316005", "+64 3 3316005", "(03) 3316005", "tel:+64-3-3316005"])
     check("layouts", names.format_by_pattern(PhoneNumber(999, 33316005), PhoneNumberFormat.NATIONAL, [own]), "33316005")
+    for hint, text, region, wanted in LETTERS:
+        number = names.parse(text, hint, keep_raw_input=True)
+        check(text, names.format_out_of_country_keeping_alpha_chars(number, region), wanted)
+    told = [names.format_out_of_country_keeping_alpha_chars(PhoneNumber(64, 33316005), it) for it in ("NZ", "ZZ")]
+    check("no letters", told, ["03 331 6005", "+64 3 331 6005"])
+    check("no code", names.format_out_of_country_keeping_alpha_chars(PhoneNumber(999, 12), "NZ"), "12")
+    part = names.phonenumberutil._extract_possible_number
+    check("part", [part(it) for it in ("Tel: 12 / x34", "call me", "+1 650!")], ["12 ", "", "+1 650"])
     zeros = names.parse("000", "IT", keep_raw_input=True)
     check("zeros", [names.format_number(zeros, it) for it in range(4)], ["+39000", "000", "000", "000"])
     short, of = names.shortnumberinfo, PhoneNumber(1, 911)
@@ -327,10 +345,41 @@ def records_are_told():
     record = names.PhoneMetadata.metadata_for_region("NZ")
     check("record", (record.id, record.country_code, record.national_prefix, record.international_prefix), ("NZ", 64, "0", "0(?:0|161)"))
     check("kinds", (record.mobile.possible_length, record.pager is None, record.fixed_line.example_number), ((8, 9, 10), True, "32345678"))
-    check("layouts", (record.number_format[0].format[:2], len(record.intl_number_format) > 0), ("\\1", True))
+    layouts = record.number_format, names.PhoneMetadata.metadata_for_region("US").intl_number_format
+    check("layouts", [it[-1].format for it in layouts], ["\\1 \\2 \\3", "\\1-\\2-\\3"])
+    check("rules", (record.number_format[0].national_prefix_formatting_rule, record.national_prefix_for_parsing), ("0\\1", "0"))
     check("others", (names.PhoneMetadata.metadata_for_region("XX"), names.PhoneMetadata.metadata_for_nongeo_region(800).id,
                      names.PhoneMetadata.metadata_for_region_or_calling_code(800, "001").country_code), (None, "001", 800))
     check("same", record == names.PhoneMetadata.metadata_for_region("NZ"), True)
+    check("told", eval(repr(record), vars(names)) == record, True)
+    short = names.PhoneMetadata.short_metadata_for_region("NZ")
+    check("short", (short.id, short.country_code, short.short_data, short.emergency.example_number, short.sms_services.possible_length),
+          ("NZ", None, True, "111", (3, 4)))
+    check("no short", names.PhoneMetadata.short_metadata_for_region("XX", record) is record, True)
+
+
+def records_are_registered():
+    own, loaded = names.PhoneMetadata("XY", national_prefix="9"), []
+    names.PhoneMetadata("XY", national_prefix="9")
+    names.PhoneMetadata("XY", national_prefix="8", register=False)
+    names.PhoneMetadata.register_region_loader("XZ", lambda it: loaded.append(names.PhoneMetadata(it)))
+    for _ in range(2):
+        found = names.PhoneMetadata.metadata_for_region("XZ")
+        check("loaded", ([it.id for it in loaded], found is loaded[0]), (["XZ"], True))
+    check("registered", names.PhoneMetadata.metadata_for_region("XY") is own, True)
+    check("no answer changes", (names.is_supported("XY"), "XY" in names.SUPPORTED_REGIONS), (False, False))
+    for change in (
+        lambda: names.PhoneMetadata("XY", national_prefix="8"), lambda: names.PhoneMetadata("NZ"), lambda: setattr(own, "national_prefix", "8"),
+        lambda: delattr(own, "id"), lambda: own.merge_from(own), lambda: names.PhoneMetadata("XY", prefix="9"),
+    ):
+        try:
+            change()
+        except Exception:  # pylint: disable=broad-except
+            continue
+        check("refused", change, "a refusal")
+    own._mutable = True
+    own.national_prefix = "8"
+    check("changed", own.national_prefix, "8")
 
 
 def readme():
@@ -346,7 +395,7 @@ def readme():
 def main():
     for case in (numbers_are_read, numbers_are_told, numbers_are_compared_and_found, regions_are_told, places_are_told, short_numbers_are_told,
                  numbers_are_dialled, further_questions_are_answered, numbers_are_data, numbers_have_classes_made_of_them, package_is_installed,
-                 records_are_told, readme):
+                 records_are_told, records_are_registered, readme):
         case()
     missing = [name for name in names.__all__ if not hasattr(names, name)]
     check("names", missing, [])

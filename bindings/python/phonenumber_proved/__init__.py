@@ -30,7 +30,7 @@ The module `phonenumber_proved.phonenumbers` has the names of the package `phone
 
 from ._calls import is_viable
 from .columns import Column, Told
-from .database import Database, Found, Leniency, Sameness
+from .database import Alternates, Database, Found, Leniency, Sameness
 from .errors import (
     BadDatabase, BadPrefixes, Closed, Error, NoNumber, UnknownCode, UnknownRegion,
 )
@@ -40,20 +40,22 @@ from .number import Kind, Mode, PhoneNumber, Possibility, Rules, Source
 from .places import Atlas
 from .prefixes import Prefixes
 from .questions import (
-    Cost, FactsAnywhere, Form, NumberFacts, NumberMatch, RegionFacts, has_letters, is_geographical,
-    mobile_token, normalize,
+    Cost, FactsAnywhere, Form, NumberFacts, NumberMatch, RegionFacts, extract, has_letters,
+    is_geographical, mobile_token, normalize,
 )
 from .short import ShortFacts, ShortNumbers, SmsServices
 from .tables import (
-    AREAS_TABLE, CARRIERS_TABLE, PLACES, SHORT_TABLE, SMS_TABLE, TABLE, TABLE_VERSION,
-    TIME_ZONES_TABLE,
+    ALTERNATES_TABLE, AREAS_TABLE, CARRIERS_TABLE, PLACES, SHORT_TABLE, SMS_TABLE, TABLE,
+    TABLE_VERSION, TIME_ZONES_TABLE,
 )
 from .warming import warm
 
 __version__ = "0.3.0"
 
 __all__ = [
+    "ALTERNATES_TABLE",
     "AREAS_TABLE",
+    "Alternates",
     "Atlas",
     "BadDatabase",
     "BadPrefixes",
@@ -95,6 +97,7 @@ __all__ = [
     "UnknownCode",
     "UnknownRegion",
     "__version__",
+    "extract",
     "has_letters",
     "is_geographical",
     "is_viable",

@@ -3,7 +3,7 @@
 from __future__ import annotations
 
 import ctypes
-from typing import Any, List, Optional
+from typing import Any, Callable, List, Optional
 
 from . import _calls
 from ._calls import OK, UNKNOWN_CODE, Text, bytes_of, hint_of, items, lib, refuse, written
@@ -89,15 +89,24 @@ class Asked(Held):
         return [Kind(it) for it in kinds]
 
     def match(self, first: Text, second: Text) -> NumberMatch:
-        """How like the numbers of two texts are by libphonenumber's rules.
-
-        `compare` tells the same by rules that take fewer numbers for ends of others.
+        """How like the numbers of two texts are, as `PhoneNumber.match` has it.
 
         >>> from phonenumber_proved import Database
         >>> with Database.load() as world:
         ...     world.match("+64 3 331 6005", "03 331 6005").name
+        ...     world.match("+64 3 331 6005", "31 6005").name
+        ...     world.library_match("+64 3 331 6005", "31 6005").name
         'NSN_MATCH'
+        'NO_MATCH'
+        'SHORT_NSN_MATCH'
         """
+        return self._match(lib.phone_own_match_texts, first, second)
+
+    def library_match(self, first: Text, second: Text) -> NumberMatch:
+        """The same by libphonenumber's rules, by which any digits may be an end of others."""
+        return self._match(lib.phone_match_texts, first, second)
+
+    def _match(self, call: Callable[..., int], first: Text, second: Text) -> NumberMatch:
         one, two, told = bytes_of(first), bytes_of(second), ctypes.c_uint32()
-        call, at = lib.phone_match_texts, ctypes.byref(told)
-        return match_of(self._call(call, one, len(one), two, len(two), at), told)
+        status = self._call(call, one, len(one), two, len(two), ctypes.byref(told))
+        return match_of(status, told)

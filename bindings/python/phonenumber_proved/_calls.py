@@ -221,6 +221,9 @@ def _declare(lib: Library) -> None:
         "country_name": [u32, handle, atlas, number, text, size, text, size, pointer(size)],
         "time_zones": [u32, handle, prefixes, number, text, size, u8, text, size, pointer(size)],
         "matches": [u32, handle, text, size, u32, u64, text, size, place, size, pointer(size)],
+        "matches_by": [
+            u32, handle, handle, text, size, u32, u64, text, size, place, size, pointer(size),
+        ],
         "key": [u32, number, text, size, pointer(size)],
         "is_viable": [u32, text, size, pointer(u8)],
         "status_words": [u32, u32, text, size, pointer(size)],
@@ -245,6 +248,23 @@ def _declare(lib: Library) -> None:
         "is_sms_service": [u32, handle, handle, text, size, number, pointer(u8)],
         "example_of_code": [u32, handle, u16, number, text, size, pointer(size)],
         "invalid_example": [u32, handle, text, size, number, text, size, pointer(size)],
+        "text_with_letters": [
+            u32, handle, text, size, text, size, number, text, size, text, size, pointer(size),
+        ],
+        "dialled_with_letters": [
+            u32, handle, text, size, text, size, number, text, size, text, size, pointer(size),
+        ],
+        "extract": [u32, text, size, text, size, pointer(size)],
+        "example_of_kind": [u32, handle, u32, number, text, size, pointer(size)],
+        "own_mobile_text": [
+            u32, handle, text, size, u8, number, text, size, text, size, pointer(size),
+        ],
+        "reaches_from_abroad": [u32, handle, number, pointer(u8)],
+        "known_cost": [u32, handle, handle, number, pointer(u32)],
+        "own_possibility": [u32, handle, u32, number, pointer(u32)],
+        "own_match_numbers": [u32, number, text, size, number, text, size, pointer(u32)],
+        "own_match_text": [u32, handle, number, text, size, text, size, pointer(u32)],
+        "own_match_texts": [u32, handle, text, size, text, size, pointer(u32)],
     }
     for name, (answer, *arguments) in calls.items():
         call = getattr(lib, "phone_" + name)

@@ -56,6 +56,23 @@ def format_out_of_country_calling_number(
     return read.text_from(_region(region_calling_from), numobj.raw_input)
 
 
+def format_out_of_country_keeping_alpha_chars(
+    numobj: PhoneNumber, region_calling_from: Optional[str]
+) -> str:
+    """How a number is dialled from a region with the letters of its `raw_input`.
+
+    >>> from phonenumber_proved import phonenumbers
+    >>> number = phonenumbers.parse("1-800-FLOWERS", "US", keep_raw_input=True)
+    >>> phonenumbers.format_out_of_country_keeping_alpha_chars(number, "NZ")
+    '00 1 800-FLOWERS'
+    """
+    raw = numobj.raw_input or None
+    read = asked(numobj, _source(numobj))
+    if read is None:
+        return raw or national_significant_number(numobj)
+    return read.text_with_letters(_region(region_calling_from), raw)
+
+
 def format_number_for_mobile_dialing(
     numobj: PhoneNumber, region_calling_from: Optional[str], with_formatting: bool
 ) -> str:
@@ -69,7 +86,8 @@ def format_number_for_mobile_dialing(
     read = asked(numobj, _source(numobj))
     if read is None:
         return numobj.raw_input or ""
-    return read.mobile_text(region_calling_from or "", with_formatting, numobj.raw_input)
+    call = read.library_mobile_text
+    return call(region_calling_from or "", with_formatting, numobj.raw_input)
 
 
 def format_in_original_format(numobj: PhoneNumber, region_calling_from: Optional[str]) -> str:
@@ -102,7 +120,7 @@ def _layouts(layouts: Tuple[Layout, ...]) -> Layouts:
 def _layout(of: NumberFormat) -> Layout:
     """A layout of that package, whose templates name groups by backslashes."""
     template, leading = (of.format or "").replace("\\", "$"), of.leading_digits_pattern
-    rule = of.national_prefix_formatting_rule
+    rule = (of.national_prefix_formatting_rule or "").replace("\\1", "$FG")
     return Layout(of.pattern or "", template, leading[-1] if leading else None, rule or None)
 
 
@@ -120,4 +138,5 @@ def format_by_pattern(
     read = asked(numobj, _source(numobj))
     if read is None:
         return national_significant_number(numobj)
-    return read.format_by(_layouts(tuple(map(_layout, user_defined_formats))), Mode(number_format))
+    own = _layouts(tuple(map(_layout, user_defined_formats)))
+    return read.library_format_by(own, Mode(number_format))

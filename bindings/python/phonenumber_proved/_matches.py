@@ -10,10 +10,12 @@ from .database import Leniency as _Level
 
 
 class Leniency(_Names):
-    """Which numbers are found. That package's two levels that look at grouping aren't offered."""
+    """Which numbers are found: the two stricter levels look at groups of digits."""
 
     POSSIBLE = 0
     VALID = 1
+    STRICT_GROUPING = 2
+    EXACT_GROUPING = 3
 
 
 class PhoneNumberMatch:
@@ -54,7 +56,7 @@ class PhoneNumberMatcher:
         max_tries: int = 65535,
     ) -> None:
         if leniency not in Leniency.values():
-            raise ValueError("the leniency is POSSIBLE or VALID")
+            raise ValueError("the leniency is none of Leniency's")
         if int(max_tries) < 0:
             raise ValueError("max_tries is 0 at least")
         self._text, self._region, self._leniency = text or "", region, leniency

@@ -217,27 +217,42 @@ def plain_number(read: _Read, numobj: Optional[PhoneNumber] = None) -> PhoneNumb
     return it
 
 
-class FrozenPhoneNumber(PhoneNumber):
+class Fixed:
+    """What doesn't change, unless its `_mutable` is set, as there."""
+
+    _mutable = False
+
+    def _check(self) -> None:
+        if not self._mutable:
+            raise TypeError(f"a {type(self).__name__} doesn't change")
+
+    def __setattr__(self, name: str, value: object) -> None:
+        if name != "_mutable":
+            self._check()
+        object.__setattr__(self, name, value)
+
+    def __delattr__(self, name: str) -> None:
+        self._check()
+        object.__delattr__(self, name)
+
+
+class FrozenPhoneNumber(Fixed, PhoneNumber):
     """A phone number that never changes, and may be a key."""
 
     def __init__(self, *args: Any, **kwargs: Any) -> None:
         is_copied = len(args) == 1 and not kwargs and isinstance(args[0], PhoneNumber)
         plain = args[0] if is_copied else PhoneNumber(*args, **kwargs)
-        self.__dict__.update(vars(plain))
-
-    def __setattr__(self, name: str, value: object) -> None:
-        raise TypeError("a FrozenPhoneNumber doesn't change")
-
-    def __delattr__(self, name: str) -> None:
-        raise TypeError("a FrozenPhoneNumber doesn't change")
+        self.__dict__.update({name: getattr(plain, name) for name in _NAMES})
 
     def clear(self) -> None:
         """Is refused."""
-        raise TypeError("a FrozenPhoneNumber doesn't change")
+        self._check()
+        super().clear()
 
     def merge_from(self, other: PhoneNumber) -> None:
         """Is refused."""
-        raise TypeError("a FrozenPhoneNumber doesn't change")
+        self._check()
+        super().merge_from(other)
 
     def __hash__(self) -> int:  # type: ignore[override]
         return hash(self._key())

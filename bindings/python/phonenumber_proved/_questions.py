@@ -61,7 +61,7 @@ def is_possible_number_for_type_with_reason(numobj: PhoneNumber, numtype: int) -
     """Whether the count of a number's digits is possible for a kind, of `ValidationResult`."""
     read = asked(numobj)
     if read is not None:
-        return RESULTS[read.possibility_as(_KINDS.get(numtype, Kind.UNKNOWN))]
+        return RESULTS[read.library_possibility_as(_KINDS.get(numtype, Kind.UNKNOWN))]
     is_known = _regions.world().main_region(numobj.country_code or 0) is not None
     return ValidationResult.TOO_LONG if is_known else ValidationResult.INVALID_COUNTRY_CODE
 
@@ -147,9 +147,9 @@ def is_number_match(num1: Union[PhoneNumber, str], num2: Union[PhoneNumber, str]
         num1, num2 = num2, num1
     try:
         if not isinstance(num1, PhoneNumber):
-            return int(_regions.world().match(num1, str(num2)))
+            return int(_regions.world().library_match(num1, str(num2)))
         one, two = asked(num1), asked(num2) if isinstance(num2, PhoneNumber) else num2
-        return MatchType.NOT_A_NUMBER if one is None or two is None else int(one.match(two))
+        return MatchType.NOT_A_NUMBER if one is None or two is None else int(one.library_match(two))
     except NoNumber:
         return MatchType.NOT_A_NUMBER
 

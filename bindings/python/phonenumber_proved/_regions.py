@@ -10,7 +10,7 @@ from typing import Any, Callable, Dict, List, Tuple
 from ._locks import new_lock
 from .database import Database
 from .short import ShortNumbers, SmsServices
-from .tables import SHORT_TABLE, table_json
+from .tables import SHORT_TABLE, SMS_TABLE, table_json
 
 #: The region of a code that is no region's, as 800, and that of no code.
 NO_REGION, UNKNOWN = "001", "ZZ"
@@ -67,11 +67,25 @@ def code_by_region() -> Dict[str, int]:
 
 
 @functools.lru_cache(maxsize=None)
+def short_records() -> Dict[str, Dict[str, Any]]:
+    """The records of the table of short numbers, by region; none where that isn't there."""
+    return _by_region(SHORT_TABLE)
+
+
+@functools.lru_cache(maxsize=None)
+def sms_records() -> Dict[str, Dict[str, Any]]:
+    """The records of the table of SMS services, by region; none where that isn't there."""
+    return _by_region(SMS_TABLE)
+
+
+def _by_region(table: str) -> Dict[str, Dict[str, Any]]:
+    is_there = Path(table).is_file()
+    return {it["id"]: it for it in json.loads(Path(table).read_bytes())} if is_there else {}
+
+
 def short_regions() -> Tuple[str, ...]:
-    """The regions of the table of short numbers; none where that isn't there."""
-    if not Path(SHORT_TABLE).is_file():
-        return ()
-    return tuple(it["id"] for it in json.loads(Path(SHORT_TABLE).read_bytes()))
+    """The regions of the table of short numbers."""
+    return tuple(short_records())
 
 
 #: The region under which `codeless` reads.

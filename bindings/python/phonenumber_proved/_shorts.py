@@ -73,7 +73,7 @@ def expected_cost(numobj: PhoneNumber) -> int:
     An unknown one stands between premium and standard rate.
     """
     facts = _anywhere(numobj)
-    return ShortNumberCost.UNKNOWN_COST if facts is None else int(facts.cost)
+    return ShortNumberCost.UNKNOWN_COST if facts is None else int(facts.library_cost)
 
 
 def is_carrier_specific(numobj: PhoneNumber) -> bool:

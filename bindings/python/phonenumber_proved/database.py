@@ -11,12 +11,13 @@ from ._calls import (
     words_of, written,
 )
 from ._asked import Asked
+from ._locks import new_lock
 from .columns import COLUMNS, Column, Progress, columns_named, columns_of
 from .errors import BadDatabase
 from .field import Typing
 from .held import Held, PathText
 from .number import Kind, PhoneNumber, Possibility, Rules
-from .tables import TABLE
+from .tables import ALTERNATES_TABLE, TABLE
 
 # As many tries as a call takes; no text in memory uses them up.
 _ALL_TRIES = (1 << 64) - 1
@@ -47,6 +48,14 @@ class Leniency(enum.IntEnum):
     """Those that are parsed as a number with a possible count of digits."""
     VALID = 1
     """Those that are parsed as a valid number."""
+    STRICT_GROUPING = 2
+    """Those valid ones that have the groups of digits of a format, in their order."""
+    EXACT_GROUPING = 3
+    """Those valid ones whose groups of digits are those of a format."""
+
+
+#: Those that look at groups of digits.
+_GROUPED = (Leniency.STRICT_GROUPING, Leniency.EXACT_GROUPING)
 
 
 class Found(NamedTuple):
@@ -73,12 +82,38 @@ class Records(Held):
             lambda handle: long_lib.phone_open(data, len(data), Rules.LIBRARY, handle)
         )
 
+    def regions(self) -> List[str]:
+        """The ids of the regions that the records are of, by the alphabet."""
+        ids = written(lambda *out: self._call(lib.phone_regions, *out), 512).decode()
+        return [ids[at : at + 2] for at in range(0, len(ids), 2)]
+
     def _opened(self, call: Callable[[Any], int]) -> None:
         status = self._open(call)
         if status == MEMORY:
             raise MemoryError
         if status != OK:
             raise BadDatabase(status, words_of(status))
+
+
+class Alternates(Records):
+    """Alternate formats, whose groups of digits the stricter leniencies look at, too."""
+
+    @classmethod
+    def load(cls, path: PathText = ALTERNATES_TABLE) -> "Alternates":
+        """Opens the formats that a file has; without a path, those of all calling codes."""
+        return super().load(path)
+
+
+_opening = new_lock()
+_opened: List[Alternates] = []
+
+
+def _own_alternates() -> Alternates:
+    """The alternate formats of this package, opened once for all threads."""
+    with _opening:
+        if not _opened:
+            _opened.append(Alternates.load())
+        return _opened[0]
 
 
 class Database(Asked, Records):
@@ -213,13 +248,21 @@ class Database(Asked, Records):
     ) -> List[Found]:
         """The numbers in a text, from its front on; they don't overlap.
 
-        >>> from phonenumber_proved import Database
+        The two leniencies that look at groups are libphonenumber's, by its rules alone: `matches`.
+
+        >>> from phonenumber_proved import Database, Leniency
         >>> with Database.load() as world:
         ...     world.find("Ring 03-331 6005 today", "NZ")
+        ...     world.find("033 31 60 05", "NZ"), world.find("033 31 60 05", "NZ", Leniency(3))
         [Found(start=5, end=16, number=<PhoneNumber +6433316005>)]
+        ([Found(start=0, end=12, number=<PhoneNumber +6433316005>)], [])
         """
         data, region = bytes_of(text), hint_of(hint)
         by, level = Rules(rules), Leniency(leniency)
+        if level in _GROUPED:
+            if by != Rules.LIBRARY:
+                raise ValueError("groups are looked at by libphonenumber's rules alone")
+            return self.matches(text, hint, level)
         call = (lib if len(data) < _LONG else long_lib).phone_find
         places = items(
             Place, 8, lambda *out: self._call(
@@ -230,12 +273,13 @@ class Database(Asked, Records):
 
     def matches(
         self, text: Text, hint: Optional[str] = None, leniency: Leniency = Leniency.VALID,
-        tries: int = _ALL_TRIES,
+        tries: int = _ALL_TRIES, alternates: Optional[Alternates] = None,
     ) -> List[Found]:
         """The numbers that stand in a text as libphonenumber finds them.
 
         Tries are how many candidates and pieces without a number are looked at: where they are
-        used up, the rest of the text isn't searched.
+        used up, the rest of the text isn't searched. The two leniencies that look at groups take
+        alternate formats too, those of this package where no others are given.
 
         >>> from phonenumber_proved import Database
         >>> with Database.load() as world:
@@ -245,11 +289,17 @@ class Database(Asked, Records):
         []
         """
         data, region, level = bytes_of(text), hint_of(hint), Leniency(leniency)
-        most = max(0, min(tries, _ALL_TRIES))
-        call = (lib if len(data) < _LONG else long_lib).phone_matches
+        most, library = max(0, min(tries, _ALL_TRIES)), lib if len(data) < _LONG else long_lib
+        others = _own_alternates() if alternates is None and level in _GROUPED else alternates
+
+        def ask(handle: Any, *rest: Any) -> Any:
+            if others is None:
+                return library.phone_matches(handle, *rest)
+            return others._call(lambda own, *it: library.phone_matches_by(handle, own, *it), *rest)
+
         places = items(
             Place, 8, lambda *out: self._call(
-                call, region, len(region), level, most, data, len(data), *out
+                ask, region, len(region), level, most, data, len(data), *out
             ), hint,
         )
         return self._read_at(places, text, data, hint, Rules.LIBRARY)
@@ -321,6 +371,16 @@ class Database(Asked, Records):
         """
         return self._example(lib.phone_example_of_code, code) if 0 <= code < 1 << 16 else None
 
+    def example_of_kind(self, kind: Kind) -> Optional[PhoneNumber]:
+        """An example of a kind, of whatever region: of the lowest calling code that has one.
+
+        >>> from phonenumber_proved import Database, Kind
+        >>> with Database.load() as world:
+        ...     world.example_of_kind(Kind.PAGER).e164, world.example_of_kind(Kind.EMERGENCY)
+        ('+12684061234', None)
+        """
+        return self._example(lib.phone_example_of_kind, Kind(kind))
+
     def invalid_example(self, region: str) -> Optional[PhoneNumber]:
         """A number of a region that isn't valid, for tests; `None` where there is none.
 
@@ -346,11 +406,6 @@ class Database(Asked, Records):
 
         texts = written(call, region=region)
         return PhoneNumber(number, texts, by, self) if is_there[-1] else None
-
-    def regions(self) -> List[str]:
-        """The ids of the database's regions, by the alphabet."""
-        ids = written(lambda *out: self._call(lib.phone_regions, *out), 512).decode()
-        return [ids[at : at + 2] for at in range(0, len(ids), 2)]
 
     def codes(self) -> List[int]:
         """The calling codes of the database, ascending.

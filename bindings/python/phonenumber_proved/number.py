@@ -266,16 +266,41 @@ class PhoneNumber:
     def possibility_as(self, kind: Kind) -> Possibility:
         """Whether the count of its digits is possible for a number of a kind; `UNKNOWN` is any.
 
+        A valid number is asked by the lengths of its own region, where `library_possibility_as`
+        takes those of the main region of its calling code, as libphonenumber does.
+
         >>> from phonenumber_proved import Database, Kind
         >>> with Database.load() as world:
-        ...     number = world.parse("+64 800 123 456")
-        ...     number.possibility_as(Kind.TOLL_FREE).name
-        'POSSIBLE'
+        ...     number = world.parse("+1 268 406 1234")
+        ...     number.possibility_as(Kind.PAGER).name, number.library_possibility_as(Kind.PAGER).name
+        ('POSSIBLE', 'WRONG_LENGTH')
         """
+        return self._possibility(lib.phone_own_possibility, kind)
+
+    def library_possibility_as(self, kind: Kind) -> Possibility:
+        """The same as libphonenumber has it."""
+        return self._possibility(lib.phone_possibility_as, kind)
+
+    def _possibility(self, call: Callable[..., int], kind: Kind) -> Possibility:
         told, of_kind = ctypes.c_uint32(), Kind(kind)
         number, answer = ctypes.byref(self._number), ctypes.byref(told)
-        status = self._call(lib.phone_possibility_as, of_kind, number, answer)
+        status = self._call(call, of_kind, number, answer)
         return Possibility(told.value) if status == OK else refuse(status)
+
+    @property
+    def reaches_from_abroad(self) -> bool:
+        """Whether it can be dialled from abroad: where it is valid, unless its region says no.
+
+        >>> from phonenumber_proved import Database
+        >>> with Database.load() as world:
+        ...     numbers = world.parse("+64 3 331 6005"), world.parse("+376 1800 1234")
+        ...     [number.reaches_from_abroad for number in numbers]
+        [True, False]
+        """
+        told = ctypes.c_uint8()
+        number, answer = ctypes.byref(self._number), ctypes.byref(told)
+        status = self._call(lib.phone_reaches_from_abroad, number, answer)
+        return told.value == 1 if status == OK else refuse(status)
 
     def truncated(self) -> "Optional[PhoneNumber]":
         """A valid number as it is; another without so many digits at its end that it is valid.
@@ -367,25 +392,38 @@ class PhoneNumber:
         return written(told).decode()
 
     def match(self, other: "Union[PhoneNumber, Text]") -> NumberMatch:
-        """How like it and another number, or the number of a text, are by libphonenumber's rules.
+        """How like it and another number, or the number of a text, are.
 
         A number of the calling code 0 is one whose code isn't known; a text without one is parsed in
-        the main region of this number's code.
+        the main region of this number's code. An end of a number has seven digits at least, and a
+        text with an international prefix may match exactly: `library_match` tells what
+        libphonenumber does.
 
         >>> from phonenumber_proved import Database
         >>> with Database.load() as world:
         ...     number = world.parse("+64 3 331 6005")
-        ...     number.match("03 331 6005").name, number.match(number).name
+        ...     number.match("03 331 6005").name, number.match("0064 3 331 6005").name
+        ...     number.match("31 6005").name, number.library_match("31 6005").name
         ('NSN_MATCH', 'EXACT_MATCH')
+        ('NO_MATCH', 'SHORT_NSN_MATCH')
         """
+        return self._match(lib.phone_own_match_numbers, lib.phone_own_match_text, other)
+
+    def library_match(self, other: "Union[PhoneNumber, Text]") -> NumberMatch:
+        """The same by libphonenumber's rules."""
+        return self._match(lib.phone_match_numbers, lib.phone_match_text, other)
+
+    def _match(
+        self, of_numbers: Callable[..., int], of_text: Callable[..., int],
+        other: "Union[PhoneNumber, Text]",
+    ) -> NumberMatch:
         told = ctypes.c_uint32()
         number, texts, at = ctypes.byref(self._number), self._texts, ctypes.byref(told)
         if isinstance(other, PhoneNumber):
             two, others = ctypes.byref(other._number), other._texts
-            call = lib.phone_match_numbers
-            return match_of(call(number, texts, len(texts), two, others, len(others), at), told)
-        data, ask = bytes_of(other), lib.phone_match_text
-        return match_of(self._call(ask, number, texts, len(texts), data, len(data), at), told)
+            return match_of(of_numbers(number, texts, len(texts), two, others, len(others), at), told)
+        data = bytes_of(other)
+        return match_of(self._call(of_text, number, texts, len(texts), data, len(data), at), told)
 
     def format_read(self, mode: Mode, raw: Optional[Text] = None) -> str:
         """The text in a mode, where the text that it was read from may be known.
@@ -401,23 +439,69 @@ class PhoneNumber:
         """
         return self._written(lib.phone_format_read, int(Mode(mode)), *_given(raw))
 
-    def mobile_text(
-        self, region: str, with_symbols: bool = True, raw: Optional[Text] = None
-    ) -> str:
+    def mobile_text(self, region: str, with_symbols: bool = True) -> str:
         """What a mobile phone dials to reach it in a region, or with `001` anywhere.
 
-        It is empty where the number can't be dialled there, and leaves the extension out. The text
-        that the number was read from stands for one whose code the database lacks.
+        It is empty where the number can't be dialled there, and leaves the extension out. Each
+        region of its calling code is at home for it.
 
-        >>> from phonenumber_proved import Database
+        >>> from phonenumber_proved import Database, PhoneNumber
         >>> with Database.load() as world:
         ...     number = world.parse("03-331 6005", "NZ")
         ...     number.mobile_text("NZ"), number.mobile_text("US", with_symbols=False)
+        ...     PhoneNumber.from_parts(1, "911").on(world).mobile_text("CA")
         ('03 331 6005', '+6433316005')
+        '911'
+        """
+        call, flag = lib.phone_own_mobile_text, int(with_symbols)
+        return self._written(call, *_given(region), flag, region=region)
+
+    def library_mobile_text(
+        self, region: str, with_symbols: bool = True, raw: Optional[Text] = None
+    ) -> str:
+        """The same as libphonenumber has it: only the main region of its code is at home for it.
+
+        The text that the number was read from stands for one whose code the database lacks, or
+        whose value is 0.
+
+        >>> from phonenumber_proved import Database, PhoneNumber
+        >>> with Database.load() as world:
+        ...     PhoneNumber.from_parts(1, "911").on(world).library_mobile_text("CA")
+        ''
         """
         return self._written(
             lib.phone_mobile_text, *_given(region), int(with_symbols), *_given(raw), region=region
         )
+
+    def dialled_with_letters(self, region: Optional[str], raw: Text) -> str:
+        """How it is dialled from a region with the letters of the text that it was read from.
+
+        That is the end of the text whose letters and digits are the number's, so that what is
+        dialled reaches it; without three letters, or such an end, as `text_from` has it.
+
+        >>> from phonenumber_proved import Database
+        >>> with Database.load() as world:
+        ...     number = world.parse("0800 FLOWERS", "NZ")
+        ...     [number.dialled_with_letters(at, "0800 FLOWERS") for at in ("NZ", "AT")]
+        ['0800 FLOWERS', '00 64 800 FLOWERS']
+        """
+        at = hint_of(region)
+        call = lib.phone_dialled_with_letters
+        return self._written(call, at, len(at), *_given(raw), region=region)
+
+    def text_with_letters(self, region: Optional[str], raw: Optional[Text] = None) -> str:
+        """The same as libphonenumber has it: from where its first three digits stand in the text.
+
+        So the national prefix may be lost, or written twice.
+
+        >>> from phonenumber_proved import Database
+        >>> with Database.load() as world:
+        ...     world.parse("03 331 6005", "NZ").text_with_letters("NZ", "03 331 6005")
+        '003 331 6005'
+        """
+        at = hint_of(region)
+        call = lib.phone_text_with_letters
+        return self._written(call, at, len(at), *_given(raw), region=region)
 
     def text_from(self, region: Optional[str], raw: Optional[Text] = None) -> str:
         """How it is dialled from a region as libphonenumber writes it; from none, internationally.
@@ -448,12 +532,20 @@ class PhoneNumber:
     def format_by(self, layouts: "Layouts", mode: Mode = Mode.NATIONAL) -> str:
         r"""The text in a mode by a program's own layouts, the first of them that suits it.
 
+        E.164 text isn't laid out: `library_format_by` does that too, as libphonenumber.
+
         >>> from phonenumber_proved import Database, Layout, Layouts
         >>> own = Layouts([Layout(r"(\d)(\d+)", "$1 $2", national_prefix_rule="($NP$FG)")])
         >>> with Database.load() as world:
         ...     world.parse("03-331 6005", "NZ").format_by(own)
         '(03) 3316005'
         """
+        if Mode(mode) == Mode.E164:
+            return self.e164
+        return self.library_format_by(layouts, mode)
+
+    def library_format_by(self, layouts: "Layouts", mode: Mode = Mode.NATIONAL) -> str:
+        """The same as libphonenumber has it."""
         return self._written(
             lambda handle, *rest: layouts._call(
                 lambda own, *more: lib.phone_format_by(handle, own, *more), *rest
@@ -470,17 +562,15 @@ class PhoneNumber:
         'TOLL_FREE'
         """
         told, number = _calls.FactsAnywhere(), ctypes.byref(self._number)
-        status = self._call(
-            lambda handle, *rest: shorts._call(
-                lambda own, *more: lib.phone_short_anywhere(handle, own, *more), *rest
-            ),
-            number,
-            ctypes.byref(told),
-        )
+        status = self._beside(shorts, lib.phone_short_anywhere, number, ctypes.byref(told))
         if status != OK:
             refuse(status)
-        is_some = told.is_possible == 1, told.is_valid == 1, Cost(told.cost)
-        return FactsAnywhere(*is_some, told.is_carrier_specific == 1)
+        cost, at = ctypes.c_uint32(), Cost(told.cost)
+        status = self._beside(shorts, lib.phone_known_cost, number, ctypes.byref(cost))
+        if status != OK:
+            refuse(status)
+        is_some = told.is_possible == 1, told.is_valid == 1, Cost(cost.value)
+        return FactsAnywhere(*is_some, told.is_carrier_specific == 1, at)
 
     def is_sms_service(self, services: "SmsServices", region: str) -> bool:
         """Whether it is an SMS service of a region, a short number that messages are sent to.
@@ -491,15 +581,18 @@ class PhoneNumber:
         False
         """
         at, told, number = hint_of(region or ""), ctypes.c_uint8(), ctypes.byref(self._number)
-        status = self._call(
-            lambda handle, *rest: services._call(
-                lambda own, *more: lib.phone_is_sms_service(handle, own, *more), *rest
-            ),
-            at, len(at), number, ctypes.byref(told),
-        )
+        call = lib.phone_is_sms_service
+        status = self._beside(services, call, at, len(at), number, ctypes.byref(told))
         if status != OK:
             refuse(status, region)
         return told.value == 1
+
+    def _beside(self, held: Any, call: Callable[..., int], *args: Any) -> Any:
+        """What a call gives on the number's database, and on what else is open."""
+        return self._call(
+            lambda handle, *rest: held._call(lambda own, *more: call(handle, own, *more), *rest),
+            *args,
+        )
 
     def _written(self, call: Callable[..., int], *front: Any, region: Any = None) -> str:
         """What a call writes of the number: it stands behind these arguments."""

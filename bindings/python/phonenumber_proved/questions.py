@@ -10,7 +10,7 @@ from ._calls import OK, Text, bytes_of, lib, refuse, written
 
 
 class NumberMatch(enum.IntEnum):
-    """How like two numbers are by libphonenumber's rules; `Sameness` is told by other ones."""
+    """How like two numbers are, by libphonenumber's answers; `Sameness` has others."""
 
     NOT_A_NUMBER = 0
     """One of two texts is no number."""
@@ -53,9 +53,12 @@ class FactsAnywhere(NamedTuple):
     is_valid: bool
     """It is a short number of one of them."""
     cost: Cost
-    """The first that it costs in one of premium rate, an unknown cost, standard rate, nothing."""
+    """The first that it costs, in those that know it, of premium rate, an unknown cost, standard
+    rate, nothing."""
     is_carrier_specific: bool
     """Only some carriers connect it, in the first region whose short number it is."""
+    library_cost: Cost
+    """The same cost in all of them, as libphonenumber has it: unknown where one doesn't know it."""
 
 
 class RegionFacts(NamedTuple):
@@ -79,8 +82,9 @@ class NumberFacts(NamedTuple):
     is_geographical: bool
     """Whether it is of a place."""
     is_dialled_from_abroad: bool
-    """Whether it can be dialled from abroad: unless its region says that it is dialled at home
-    alone. So it is also said of a number that isn't valid."""
+    """Whether it can be dialled from abroad, as libphonenumber has it: unless its region says that
+    it is dialled at home alone. So it is also said of a number that isn't valid, unlike by
+    `PhoneNumber.reaches_from_abroad`."""
 
 
 def code_of(code: int) -> int:
@@ -131,6 +135,19 @@ def has_letters(text: Text) -> bool:
     """
     data, told = bytes_of(text), ctypes.c_uint8()
     return bool(lib.phone_has_letters(data, len(data), ctypes.byref(told)) == OK and told.value)
+
+
+def extract(text: Text) -> str:
+    """The part of a text in which a number may stand; empty where there is none.
+
+    It begins with the first digit or plus sign, and ends before a second number.
+
+    >>> from phonenumber_proved import extract
+    >>> extract("Ring 03-331 6005!"), extract("call me")
+    ('03-331 6005', '')
+    """
+    data, call = bytes_of(text), lib.phone_extract
+    return written(lambda *out: call(data, len(data), *out), len(data) + 1).decode()
 
 
 def match_of(status: int, told: ctypes.c_uint32) -> NumberMatch:

@@ -69,6 +69,9 @@ SHORT_TABLE = _beside("short.json")
 #: Those of SMS services, short numbers that messages are sent to.
 SMS_TABLE = _beside("sms.json")
 
+#: Alternate formats of groups of digits, which the stricter leniencies look at.
+ALTERNATES_TABLE = _beside("alternates.json")
+
 #: The files of prefixes beside it, for `Prefixes.load`: the time zones, parted by `&`, and the
 #: English names of carriers.
 TIME_ZONES_TABLE = _beside("timezones.tsv")

@@ -101,14 +101,16 @@ pub struct FactsAnywhere {
     pub is_possible: bool,
     /// Whether it is a short number of some region.
     pub is_valid: bool,
-    /// The first that it costs in some region of premium rate, an unknown cost, standard rate, and nothing.
+    /// The first that it costs, in the regions that know it, of premium rate, an unknown cost, standard rate, and nothing.
     pub cost: Cost,
+    /// The same in all of them, as libphonenumber has it: unknown where one of them doesn't know it.
+    pub library_cost: Cost,
     /// Whether only some carriers connect it, in the first region whose short number it is.
     pub is_carrier_specific: bool,
 }
 
 impl Database {
-    fn dialled(&self, call: impl FnOnce(&mut ffi::Handle) -> u32) -> u32 {
+    pub(crate) fn dialled(&self, call: impl FnOnce(&mut ffi::Handle) -> u32) -> u32 {
         self.by(Rules::Library).records().with(call)
     }
 
@@ -134,18 +136,18 @@ impl Database {
         })
     }
 
-    /// What a mobile phone dials to reach a number where a region's id is this, or `001` for the whole world; empty where
-    /// it can't be dialled there. With symbols the text is laid out.
+    /// What a mobile phone dials to reach a number, as libphonenumber has it: like [`Database::mobile_text`], but a number that
+    /// can't be dialled from abroad only in the main region of its calling code. The text that it was parsed from stands for
+    /// one whose code the database lacks, or whose value is 0.
     ///
     /// ```
-    /// use phonenumber_proved::{Database, Region};
-    /// let world = Database::world()?;
-    /// let number = world.parse(Region::NZ, "03-331 6005")?;
-    /// assert_eq!(world.mobile_text(Region::NZ, true, None, &number)?, "03 331 6005");
-    /// assert_eq!(world.mobile_text(Region::US, false, None, &number)?, "+6433316005");
+    /// use phonenumber_proved::{Database, PhoneNumber};
+    /// let (world, number) = (Database::world()?, PhoneNumber::from_parts(1, 911, 0)?);
+    /// let told = ["US", "CA"].map(|id| world.library_mobile_text(id, true, None, &number).unwrap());
+    /// assert_eq!(told, ["911", ""]);
     /// # Ok::<(), phonenumber_proved::Error>(())
     /// ```
-    pub fn mobile_text(
+    pub fn library_mobile_text(
         &self, id: impl AsRef<str>, with_symbols: bool, raw: Option<&str>, number: &PhoneNumber,
     ) -> Result<String, Error> {
         let ((number, texts), id) = (number.to_ffi(), id.as_ref());
@@ -214,8 +216,8 @@ impl Database {
         })
     }
 
-    /// The text of a number in a mode by a program's own layouts.
-    pub fn format_by(&self, layouts: &Layouts, mode: Mode, number: &PhoneNumber) -> Result<String, Error> {
+    /// The text of a number in a mode by a program's own layouts, as libphonenumber has it: E.164 text is laid out as well.
+    pub fn library_format_by(&self, layouts: &Layouts, mode: Mode, number: &PhoneNumber) -> Result<String, Error> {
         let (number, texts) = number.to_ffi();
         text_of(64, |out, len, wrote| {
             let (bytes, bytes_len) = (texts.as_ptr(), texts.len());
@@ -239,6 +241,7 @@ impl Database {
     /// # Ok::<(), phonenumber_proved::Error>(())
     /// ```
     pub fn short_anywhere(&self, shorts: &ShortNumbers, number: &PhoneNumber) -> Result<FactsAnywhere, Error> {
+        let cost = self.known_cost(shorts, number)?;
         let (number, mut facts) = (number.plain(), ffi::FactsAnywhere::default());
         check(self.dialled(|handle| {
             // SAFETY: as in `format_by`.
@@ -247,7 +250,8 @@ impl Database {
         Ok(FactsAnywhere {
             is_possible: facts.is_possible == 1,
             is_valid: facts.is_valid == 1,
-            cost: COSTS.get(facts.cost as usize).copied().ok_or(Error::Other(facts.cost))?,
+            cost,
+            library_cost: COSTS.get(facts.cost as usize).copied().ok_or(Error::Other(facts.cost))?,
             is_carrier_specific: facts.is_carrier_specific == 1,
         })
     }

@@ -4,8 +4,11 @@ use crate::database::{By, Database};
 use crate::error::Error;
 use crate::ffi;
 use crate::number::{PhoneNumber, Type};
+use crate::records::Records;
 use crate::region::Region;
+use std::fmt;
 use std::ops::Range;
+use std::path::Path;
 
 /// Which pieces of a text are found.
 #[derive(Clone, Copy, Debug, PartialEq, Eq, Hash, PartialOrd, Ord)]
@@ -15,6 +18,35 @@ pub enum Leniency {
     Possible,
     /// Those that are parsed as a valid number.
     Valid,
+    /// Those valid ones that have the groups of digits of a format, in their order. Only [`Database::matches`] and
+    /// [`Database::matches_by`] look at groups.
+    StrictGrouping,
+    /// Those valid ones whose groups of digits are those of a format.
+    ExactGrouping,
+}
+
+/// Alternate formats of groups of digits, for [`Database::matches_by`]. Threads use them at once, and clones share them.
+#[derive(Clone)]
+pub struct Alternates {
+    records: Records,
+}
+
+impl fmt::Debug for Alternates {
+    fn fmt(&self, f: &mut fmt::Formatter<'_>) -> fmt::Result {
+        f.debug_struct("Alternates").finish_non_exhaustive()
+    }
+}
+
+impl Alternates {
+    /// The formats of a JSON text.
+    pub fn from_json(text: impl AsRef<[u8]>) -> Result<Alternates, Error> {
+        Ok(Alternates { records: Records::open(text.as_ref())? })
+    }
+
+    /// The formats of a file.
+    pub fn load(path: impl AsRef<Path>) -> Result<Alternates, Error> {
+        Alternates::from_json(std::fs::read(path)?)
+    }
 }
 
 /// A number in a text.
@@ -43,8 +75,8 @@ impl Database {
         self.by(Default::default()).find(hint, Leniency::Valid, text)
     }
 
-    /// The numbers that stand in a text as libphonenumber finds them, from its front on. The tries are how many
-    /// candidates and pieces without a number are looked at.
+    /// The numbers that stand in a text as libphonenumber finds them, from its front on, but that groups of digits are
+    /// looked at without alternate formats. The tries are how many candidates and pieces without a number are looked at.
     ///
     /// ```
     /// use phonenumber_proved::{Database, Leniency, Region};
@@ -68,6 +100,39 @@ impl Database {
             // SAFETY: as in `By::find`.
             by.records().with(|handle| unsafe {
                 ffi::phone_matches(handle, id.as_ptr(), id_len, leniency, tries, at, text.len(), out, len, wrote)
+            })
+        })?;
+        by.read_at(hint, text, places)
+    }
+
+    /// The same by alternate formats, so that all leniencies are libphonenumber's.
+    ///
+    /// ```
+    /// use phonenumber_proved::{ALTERNATES, Alternates, Database, Leniency, Region};
+    /// let (world, others) = (Database::world()?, Alternates::from_json(ALTERNATES)?);
+    /// let (level, text) = (Leniency::ExactGrouping, "03 3316 005, not 033 31 60 05");
+    /// assert_eq!(world.matches_by(&others, Region::NZ, level, u64::MAX, text)?[0].place, 0..11);
+    /// assert_eq!(world.matches(Region::NZ, level, u64::MAX, text)?, []);
+    /// # Ok::<(), phonenumber_proved::Error>(())
+    /// ```
+    pub fn matches_by(
+        &self,
+        alternates: &Alternates,
+        hint: impl Into<Option<Region>>,
+        leniency: Leniency,
+        tries: u64,
+        text: impl AsRef<str>,
+    ) -> Result<Vec<Found>, Error> {
+        let hint = hint.into();
+        let (id, text, level) = (hint_of(hint), text.as_ref(), leniency as u32);
+        let by = self.by(Default::default());
+        let places = items_of(4, |out: *mut ffi::Place, len, wrote| {
+            let (at, id_len) = (text.as_ptr(), id.len());
+            by.records().with(|handle| {
+                // SAFETY: as in `By::find`, of two handles that are apart.
+                alternates.records.with(|own| unsafe {
+                    ffi::phone_matches_by(handle, own, id.as_ptr(), id_len, level, tries, at, text.len(), out, len, wrote)
+                })
             })
         })?;
         by.read_at(hint, text, places)
@@ -119,11 +184,7 @@ impl Database {
     /// # Ok::<(), phonenumber_proved::Error>(())
     /// ```
     pub fn regions(&self) -> Result<Vec<Region>, Error> {
-        let ids = bytes_of(512, |out, len, wrote| {
-            // SAFETY: as in `By::find`.
-            self.by(Default::default()).records().with(|handle| unsafe { ffi::phone_regions(handle, out, len, wrote) })
-        })?;
-        Ok(ids.chunks_exact(2).filter_map(|id| Region::of(std::str::from_utf8(id).ok()?)).collect())
+        regions_of(self.by(Default::default()).records())
     }
 
     /// The calling codes of the database, ascending.
@@ -174,6 +235,15 @@ impl By<'_> {
             })
         })
     }
+}
+
+/// The ids of the regions that records are of, by the alphabet.
+pub(crate) fn regions_of(records: &Records) -> Result<Vec<Region>, Error> {
+    let ids = bytes_of(512, |out, len, wrote| {
+        // SAFETY: as in `By::find`.
+        records.with(|handle| unsafe { ffi::phone_regions(handle, out, len, wrote) })
+    })?;
+    Ok(ids.chunks_exact(2).filter_map(|id| Region::of(std::str::from_utf8(id).ok()?)).collect())
 }
 
 /// The number that a call writes; none where it says that there is none.

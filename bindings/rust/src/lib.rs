@@ -36,6 +36,7 @@ mod dialling;
 mod error;
 mod found;
 mod number;
+mod own;
 mod places;
 mod possible;
 mod prefixes;
@@ -53,13 +54,14 @@ pub use columns::{Column, Columns, Offset, Texts, TextsBuf};
 pub use database::{By, Database, Formatter, Rules};
 pub use dialling::{FactsAnywhere, Layout, Layouts};
 pub use error::{Error, LineFault};
-pub use found::{Found, Leniency};
+pub use found::{Alternates, Found, Leniency};
 pub use number::{Mode, PhoneNumber, Source, Type};
+pub use own::{extract, match_numbers};
 pub use places::{Atlas, AtlasTables};
 pub use possible::{Possibility, Sameness};
 pub use prefixes::Prefixes;
 pub use questions::{
-    Form, NumberFacts, NumberMatch, RegionFacts, has_letters, is_geographical, match_numbers, mobile_token, normalize,
+    Form, NumberFacts, NumberMatch, RegionFacts, has_letters, is_geographical, library_match_numbers, mobile_token, normalize,
 };
 pub use region::Region;
 pub use short::{Cost, ShortFacts, ShortNumbers, SmsServices};
@@ -81,6 +83,10 @@ pub const SHORT: &str = include_str!(concat!(env!("PHONE_TABLES"), "/short.json"
 /// The metadata of SMS services that go with this crate, short numbers that messages are sent to.
 #[cfg(feature = "table")]
 pub const SMS: &str = include_str!(concat!(env!("PHONE_TABLES"), "/sms.json"));
+
+/// The alternate formats that go with this crate, for [`Alternates`].
+#[cfg(feature = "table")]
+pub const ALTERNATES: &str = include_str!(concat!(env!("PHONE_TABLES"), "/alternates.json"));
 
 /// The time zones by prefix that go with this crate, for [`Prefixes::of`]; those of a prefix are parted by `&`.
 ///

@@ -65,12 +65,12 @@ pub struct NumberFacts {
     pub destination_length: usize,
     /// Whether it is of a place.
     pub is_geographical: bool,
-    /// Whether it can be dialled from abroad: unless its region says that it is dialled at home alone. So it is also
-    /// said of a number that isn't valid.
+    /// Whether it can be dialled from abroad, as libphonenumber has it: unless its region says that it is dialled at home
+    /// alone. So it is also said of a number that isn't valid, unlike by [`Database::reaches_from_abroad`].
     pub is_dialled_from_abroad: bool,
 }
 
-fn matched(status: u32, told: u32) -> Result<NumberMatch, Error> {
+pub(crate) fn matched(status: u32, told: u32) -> Result<NumberMatch, Error> {
     check(status)?;
     MATCHES.get(told as usize).copied().ok_or(Error::Other(told))
 }
@@ -196,17 +196,9 @@ impl Database {
         Ok(told == 1)
     }
 
-    /// What the count of a number's digits says of it as a number of a kind; `Unknown` is any.
-    ///
-    /// ```
-    /// use phonenumber_proved::{Database, Possibility, Type};
-    /// let world = Database::world()?;
-    /// let number = world.parse(None, "+64 800 123 456")?;
-    /// assert_eq!(world.possibility_as(Type::TollFree, &number)?, Possibility::Possible);
-    /// assert_eq!(world.possibility_as(Type::FixedLine, &number)?, Possibility::TooLong);
-    /// # Ok::<(), phonenumber_proved::Error>(())
-    /// ```
-    pub fn possibility_as(&self, kind: Type, number: &PhoneNumber) -> Result<Possibility, Error> {
+    /// What the count of a number's digits says of it as a number of a kind, as libphonenumber has it: by the lengths of the
+    /// main region of its calling code, also where [`Database::possibility_as`] asks another.
+    pub fn library_possibility_as(&self, kind: Type, number: &PhoneNumber) -> Result<Possibility, Error> {
         let (number, mut told) = (number.plain(), 0);
         // SAFETY: as in `about`.
         check(self.asked(|handle| unsafe {
@@ -231,17 +223,18 @@ impl Database {
         Ok((told == 1).then(|| PhoneNumber::of(&left, texts.as_bytes())))
     }
 
-    /// How like a number and a text are; a text without a calling code is parsed in the main region of the number's.
+    /// How like a number and a text are, as libphonenumber has it: like [`Database::match_text`], but any digits may be an end
+    /// of others.
     ///
     /// ```
     /// use phonenumber_proved::{Database, NumberMatch};
     /// let world = Database::world()?;
     /// let number = world.parse(None, "+64 3 331 6005")?;
-    /// assert_eq!(world.match_text(&number, "03 331 6005")?, NumberMatch::NsnMatch);
-    /// assert_eq!(world.match_texts("+64 3 331 6005", "tel:+64-3-331-6005")?, NumberMatch::ExactMatch);
+    /// assert_eq!(world.library_match_text(&number, "0064 3 331 6005")?, NumberMatch::NsnMatch);
+    /// assert_eq!(world.library_match_texts("+64 3 331 6005", "31 6005")?, NumberMatch::ShortNsnMatch);
     /// # Ok::<(), phonenumber_proved::Error>(())
     /// ```
-    pub fn match_text(&self, number: &PhoneNumber, text: impl AsRef<str>) -> Result<NumberMatch, Error> {
+    pub fn library_match_text(&self, number: &PhoneNumber, text: impl AsRef<str>) -> Result<NumberMatch, Error> {
         let ((number, texts), text, mut told) = (number.to_ffi(), text.as_ref(), 0);
         // SAFETY: the handle is open, and lent to the call alone; the slices are valid, apart and initialized.
         let status = self.asked(|handle| unsafe {
@@ -251,8 +244,8 @@ impl Database {
         matched(status, told)
     }
 
-    /// How like two texts are, each perhaps without its calling code.
-    pub fn match_texts(&self, first: impl AsRef<str>, second: impl AsRef<str>) -> Result<NumberMatch, Error> {
+    /// How like two texts are, as libphonenumber has it.
+    pub fn library_match_texts(&self, first: impl AsRef<str>, second: impl AsRef<str>) -> Result<NumberMatch, Error> {
         let (first, second, mut told) = (first.as_ref(), second.as_ref(), 0);
         // SAFETY: as in `match_text`.
         let status = self.asked(|handle| unsafe {
@@ -295,16 +288,9 @@ impl Database {
     }
 }
 
-/// How like two numbers are. One of the calling code 0 is one whose code isn't known.
-///
-/// ```
-/// use phonenumber_proved::{NumberMatch, PhoneNumber, match_numbers};
-/// let number = PhoneNumber::from_parts(64, 33316005, 0)?;
-/// let other = PhoneNumber::from_parts(0, 3316005, 0)?;
-/// assert_eq!(match_numbers(&number, &other)?, NumberMatch::ShortNsnMatch);
-/// # Ok::<(), phonenumber_proved::Error>(())
-/// ```
-pub fn match_numbers(first: &PhoneNumber, second: &PhoneNumber) -> Result<NumberMatch, Error> {
+/// How like two numbers are, as libphonenumber has it: like [`match_numbers`](crate::match_numbers), but any digits may be an end
+/// of others.
+pub fn library_match_numbers(first: &PhoneNumber, second: &PhoneNumber) -> Result<NumberMatch, Error> {
     let ((one, texts), (two, others), mut told) = (first.to_ffi(), second.to_ffi(), 0);
     // SAFETY: the slices are valid, apart and initialized.
     let status = unsafe {

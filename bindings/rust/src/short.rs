@@ -2,6 +2,7 @@
 use crate::call::check;
 use crate::error::Error;
 use crate::ffi;
+use crate::found::regions_of;
 use crate::records::Records;
 use crate::region::Region;
 use std::fmt;
@@ -39,12 +40,11 @@ pub struct ShortFacts {
 /// Metadata of short numbers. Threads use it at once, and clones share it, as with a [`Database`](crate::Database).
 ///
 /// ```
-/// use phonenumber_proved::{Cost, Error, Region, SHORT, ShortNumbers};
+/// use phonenumber_proved::{Cost, Region, SHORT, ShortNumbers};
 /// let table = ShortNumbers::from_json(SHORT)?;
 /// let facts = table.short(Region::NZ, "111")?;
 /// assert!(facts.is_valid && facts.is_emergency && facts.cost == Cost::TollFree);
-/// assert_eq!(table.short("nz", "111").unwrap_err(), Error::NoRegion);
-/// # Ok::<(), Error>(())
+/// # Ok::<(), phonenumber_proved::Error>(())
 /// ```
 #[derive(Clone)]
 pub struct ShortNumbers {
@@ -83,6 +83,17 @@ impl ShortNumbers {
             is_emergency: facts.is_emergency == 1,
             reaches_emergency: facts.reaches_emergency == 1,
         })
+    }
+
+    /// The ids of the regions whose short numbers it has, by the alphabet.
+    ///
+    /// ```
+    /// use phonenumber_proved::{Region, SHORT, ShortNumbers};
+    /// assert_eq!(ShortNumbers::from_json(SHORT)?.regions()?[..2], [Region::AC, Region::AD]);
+    /// # Ok::<(), phonenumber_proved::Error>(())
+    /// ```
+    pub fn regions(&self) -> Result<Vec<Region>, Error> {
+        regions_of(&self.records)
     }
 }
 

@@ -6,14 +6,19 @@ use std::env::var;
 use std::path::Path;
 use std::process::Command;
 
-/// The words of pkg-config on the installed library, where it is there and serves this crate's calls.
-fn installed() -> Option<String> {
+/// What pkg-config tells of the installed library, asked so; none where it fails.
+fn told(question: &str) -> Option<String> {
     let program = var("PKG_CONFIG").unwrap_or("pkg-config".into());
-    let version = format!("--atleast-version={}", var("CARGO_PKG_VERSION").unwrap());
-    let mut command = Command::new(program);
-    let ran = command.args(["--libs", version.as_str(), "phonenumber-proved"]).output().ok()?;
+    let ran = Command::new(program).args([question, "phonenumber-proved"]).output().ok()?;
+    if ran.status.success() { String::from_utf8(ran.stdout).ok() } else { None }
+}
+
+/// The words to link the installed library, where it is there and serves this crate's calls.
+fn installed() -> Option<String> {
     let is_native = var("TARGET") == var("HOST") || var("PKG_CONFIG_ALLOW_CROSS").is_ok();
-    if ran.status.success() && is_native { String::from_utf8(ran.stdout).ok() } else { None }
+    // Asked for a version, pkg-config tells nothing else.
+    told(&format!("--atleast-version={}", var("CARGO_PKG_VERSION").unwrap())).filter(|_| is_native)?;
+    told("--libs")
 }
 
 /// Tells cargo what pkg-config told.
@@ -31,7 +36,7 @@ fn main() {
     let (here, target) = (var("CARGO_MANIFEST_DIR").unwrap(), var("TARGET").unwrap());
     let laid = format!("{here}/lib/{target}");
     println!("cargo:rerun-if-changed=build.rs");
-    for name in ["PHONE_LIB_DIR", "RATTLE_KIT", "PKG_CONFIG", "PKG_CONFIG_PATH", "DOCS_RS"] {
+    for name in ["PHONE_LIB_DIR", "RATTLE_KIT", "PKG_CONFIG", "PKG_CONFIG_PATH", "PKG_CONFIG_LIBDIR", "DOCS_RS"] {
         println!("cargo:rerun-if-env-changed={name}");
     }
     if let Ok(kit) = var("RATTLE_KIT") {

@@ -801,18 +801,23 @@ fn numbers_are_dialled_and_printed_as_they_were_written() {
         assert_eq!(world.original_text(region, Some(text), &number).as_deref(), Ok(wanted), "{text}");
     }
     let number = world.parse(None, "+61 1300 123456").unwrap();
-    let dialled = ["AU", "CX", "xx"].map(|id| world.mobile_text(id, true, None, &number).unwrap());
+    let dialled = ["AU", "CX", "xx"].map(|id| world.library_mobile_text(id, true, None, &number).unwrap());
     assert_eq!(dialled, ["1300 123 456", "", ""]);
+    let dialled = ["AU", "CX", "xx"].map(|id| world.mobile_text(id, true, &number).unwrap());
+    assert_eq!(dialled, ["1300 123 456", "1300 123 456", ""]);
     let none = Database::from_json("[]").unwrap();
     assert_eq!(none.format_read(Mode::National, None, &number).as_deref(), Ok("1300123456"));
-    assert_eq!(none.mobile_text(Region::AU, false, Some("as it was"), &number).as_deref(), Ok("as it was"));
+    assert_eq!(none.library_mobile_text(Region::AU, false, Some("as it was"), &number).as_deref(), Ok("as it was"));
+    assert_eq!(none.mobile_text(Region::AU, false, &number).as_deref(), Ok(""));
     let quoted = Layout { pattern: r"(\d{4})(\d+)", format: "$1 \"\\\u{1}\" $2", ..Layout::default() };
     let own = Layouts::of(&[Layout { leading_digits: Some("2"), ..quoted }, quoted]).unwrap();
     let told = world.format_by(&own.clone(), Mode::National, &number).unwrap();
     assert_eq!(told, "1300 \"\\\u{1}\" 123456");
+    assert_eq!(world.format_by(&own, Mode::E164, &number).as_deref(), Ok("+611300123456"));
+    assert_eq!(world.library_format_by(&own, Mode::E164, &number).as_deref(), Ok("+611300 \"\\\u{1}\" 123456"));
     assert_eq!(Layouts::of(&[Layout { pattern: "(", ..quoted }]).unwrap_err(), Error::Database(12));
     let facts = world.short_anywhere(&shorts, &PhoneNumber::from_parts(1, 911, 0).unwrap()).unwrap();
-    assert_eq!((facts.is_possible, facts.is_valid, facts.cost), (true, true, Cost::Unknown));
+    assert_eq!((facts.is_possible, facts.is_valid, facts.cost, facts.library_cost), (true, true, Cost::TollFree, Cost::Unknown));
     let examples = [Cost::TollFree, Cost::Unknown].map(|cost| shorts.example(Region::FR, Some(cost)).unwrap());
     assert_eq!(examples, [Some("15".to_owned()), None]);
 }

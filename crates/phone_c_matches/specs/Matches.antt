@@ -1,9 +1,9 @@
 -- Where the numbers of a text stand, as libphonenumber finds them.
-use Rattle.std.specs.Prelude.{◌≡◌, ℕ, ◌+◌, ◌<◌, List, Option, chars, length, map}
+use Rattle.std.specs.Prelude.{◌≡◌, ℕ, ◌+◌, ◌<◌, List, [], Option, chars, length, map}
 use Rattle.phone_values.specs.declared.country.Id.{Id}
 use Rattle.phone_values.specs.declared.reading.Reading.{Reading}
 use Rattle.phone_records.specs.declared.loader.Metadata.{Metadata}
-use Rattle.phone_matches.specs.Numbers.{AreNumbers}
+use Rattle.phone_matches.specs.Numbers.{AreNumbersBy}
 use Rattle.phone_matches.specs.declared.leniency.Leniency.{Leniency}
 use Rattle.phone_matches.specs.declared.leniency.Leniency.TheVariants.{ExactGrouping, Possible}
 use Rattle.phone_matches.specs.declared.leniency.Leniency.TheVariants.{StrictGrouping, Valid}
@@ -38,9 +38,15 @@ place_of m = record {
 abbrev pub places_of : List (Match Reading) → List Place
 places_of all = map place_of all
 
--- under a hint and a leniency, with so many tries, the numbers of a text stand there
+-- under a hint and a leniency, with so many tries, the numbers of a text stand there, by a database
+-- of alternate layouts
+abbrev pub ArePlacesBy : (db alternates : List Metadata) → Option Id → Leniency → (tries : ℕ) →
+    (text : List ℕ) → List Place → Type 0
+ArePlacesBy db alternates hint leniency tries text places = (all : List (Match Reading)) ×
+    AreNumbersBy db alternates hint leniency tries (chars text) (told_matches all) ×
+    AllMatchThere text all × (places ≡ places_of all)
+
+-- the same without alternate layouts
 abbrev pub ArePlaces : List Metadata → Option Id → Leniency → (tries : ℕ) → (text : List ℕ) →
     List Place → Type 0
-ArePlaces db hint leniency tries text places = (all : List (Match Reading)) ×
-    AreNumbers db hint leniency tries (chars text) (told_matches all) ×
-    AllMatchThere text all × (places ≡ places_of all)
+ArePlaces db hint leniency tries text places = ArePlacesBy db [] hint leniency tries text places

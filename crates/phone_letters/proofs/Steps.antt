@@ -1,6 +1,6 @@
 -- The keys of a text, one after another.
-use Rattle.std.proofs.Common.{◌≡◌, ℕ, ◌&&◌, ◌==◌, Bool, true, false, if◌then◌else◌, List, [], ◌∷◌, Option, None, Some, is_some, unwrap_or, encode_utf8_all, length, refl, ap, sym, true≢false}
-use Rattle.std.proofs.lemmas.Bool.{cond-true}
+use Rattle.std.proofs.Common.{◌≡◌, ℕ, ◌&&◌, ◌==◌, Bool, true, false, if◌then◌else◌, List, [], ◌∷◌, Option, None, Some, is_some, unwrap_or, encode_utf8_all, length, refl, ap, sym, arith, true≢false}
+use Rattle.std.proofs.lemmas.Bool.{cond-true, ne_eqb}
 use Rattle.std.specs.List.{cons_option}
 use Rattle.std.specs.Option.{option_map_or}
 use Rattle.std.specs.Str.{bytes_eq}
@@ -45,4 +45,4 @@ here_so digits (d ∷ ds) c cs e h = cond-true _ _ _ h
 -- no key at all
 pub nothing_so : (left : List ℕ) → (length left == 0) ≡ bytes_eq [] left
 nothing_so [] = refl
-nothing_so (d ∷ ds) = refl
+nothing_so (d ∷ ds) = ne_eqb (length (d ∷ ds)) 0 (λ e. omega (arith, e))

@@ -68,7 +68,17 @@ fn sign_of(c: char) -> Option<char>
 fn is_hyphen(c: char) -> bool
     ensures { result ≡ is_hyphen c }
 {
-    matches!(c, '-' | '\u{2010}'..='\u{2015}' | '\u{2212}' | '\u{FF0D}')
+    matches!(
+        c,
+        '-' | '\u{2010}'
+            | '\u{2011}'
+            | '\u{2012}'
+            | '\u{2013}'
+            | '\u{2014}'
+            | '\u{2015}'
+            | '\u{2212}'
+            | '\u{FF0D}'
+    )
 }
 
 /// Whether a character is a slash.

@@ -249,6 +249,22 @@ fn ruled_text(alloc: Global, rule: &str, prefix: &str, text: &str) -> Result<Str
     if group.is_empty() {
         return String::from_str(alloc, text);
     }
+    with_group(alloc, rule, prefix, before, group, behind)
+}
+
+/// A group of digits written by a rule, between what stands before it and behind it. Refused only
+/// for memory.
+fn with_group(
+    alloc: Global,
+    rule: &str,
+    prefix: &str,
+    before: &str,
+    group: &str,
+    behind: &str,
+) -> Result<String, AllocError>
+    ensures { IfOk result (λ t. string_bytes t ≡
+        before.now ++ (ruled_group rule.now prefix.now group.now ++ behind.now)) }
+{
     let written = ruled_group(alloc, rule, prefix, group)?;
     format!(in alloc; "{before}{written}{behind}")
 }

@@ -1,5 +1,5 @@
 //! Questions on how numbers are written so that they can be dialled.
-use crate::given::{number, region, shown};
+use crate::given::{number, refusal, region, shown};
 use crate::layouts::layouts;
 use anyhow::Result;
 use phone_dialling::{dialled_text, mobile_text, original_text, text_by_layouts, text_in};
@@ -16,6 +16,9 @@ use std::alloc::Global;
 pub fn answer(alloc: Global, row: &Row, db: &Database) -> Result<Option<String>> {
     if !is_asked(row.argument(1)) {
         return Ok(None);
+    }
+    if let Some(error) = refusal(row, db, 2)? {
+        return Ok(Some(format!(in alloc; "error {error}")?));
     }
     let n = number(alloc, row, db, 2)?;
     let (raw, word) = (raw(row), row.argument(4));

@@ -2,7 +2,7 @@
 use anyhow::{Result, anyhow};
 use phone_meta::Database;
 use phone_values::country::{Code, Id, Source};
-use phone_values::{Extension, NationalNumber};
+use phone_values::{Extension, NationalNumber, ParseError};
 use phonenumber::PhoneNumber;
 use replay_base::table::Row;
 use replay_base::words::{hint, said};
@@ -15,6 +15,32 @@ pub fn number(alloc: Global, row: &Row, db: &Database, at: usize) -> Result<Phon
         return of_parts(alloc, second);
     }
     Ok(phone_library::parse(db, hint(first)?, second)?)
+}
+
+/// Why the text that a line gives from an argument on is no number, by the name of the error; none
+/// where it is one, and where the line gives the number's parts.
+pub fn refusal(row: &Row, db: &Database, at: usize) -> Result<Option<&'static str>> {
+    let (first, second) = (row.argument(at), row.argument(at.saturating_add(1)));
+    if first == "=" {
+        return Ok(None);
+    }
+    match phone_library::parse(db, hint(first)?, second) {
+        Ok(_) => Ok(None),
+        Err(error) => Ok(Some(error_name(error))),
+    }
+}
+
+/// The name of an error.
+fn error_name(error: ParseError) -> &'static str {
+    match error {
+        ParseError::NoNumber => "NoNumber",
+        ParseError::InvalidCountryCode => "InvalidCountryCode",
+        ParseError::TooShortAfterIdd => "TooShortAfterIdd",
+        ParseError::TooShortNsn => "TooShortNsn",
+        ParseError::TooLong => "TooLong",
+        ParseError::MalformedInteger => "MalformedInteger",
+        ParseError::Memory => "Memory",
+    }
 }
 
 /// The number of these parts, with spaces between: code, digits, perhaps an extension.

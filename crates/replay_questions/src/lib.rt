@@ -1,7 +1,8 @@
 //! Rows of answers to the further questions of libphonenumber. A line's call is `question`; behind
 //! its database stand the question's name and its arguments, of which a number is two: a hint and a
 //! text, or an equals sign and its parts. The answer is `-` where there is none, `empty` for the
-//! empty text, else `yes` or `no`, words, a count, a number's parts.
+//! empty text, else `yes` or `no`, words, a count, a number's parts; `error` and a name where a
+//! text is no number.
 #![tactic(auto)]
 
 mod dialling;

@@ -1,6 +1,7 @@
 //! Questions on texts.
 use crate::given::{shown, yes};
 use anyhow::Result;
+use phone_parts::helper::extract;
 use phone_questions::{diallable_only, digits_only, has_letters, with_keys};
 use replay_base::table::Row;
 use std::alloc::Global;
@@ -9,6 +10,7 @@ use std::alloc::Global;
 pub fn answer(alloc: Global, row: &Row) -> Result<Option<String>> {
     let text = row.argument(2);
     let made = match row.argument(1) {
+        "extract" => return Ok(Some(shown(alloc, Some(extract(text).unwrap_or("")))?)),
         "has-letters" => return Ok(Some(yes(alloc, has_letters(text))?)),
         "keys" => with_keys(alloc, text)?,
         "digits" => digits_only(alloc, text)?,

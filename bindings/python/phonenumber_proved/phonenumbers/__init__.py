@@ -22,8 +22,7 @@ An unknown region is none, as there. A national number of 2^56 or more, as some 
 is too long. Where versions of libphonenumber differ, the rules are a newer one's: a text with
 `;phone-context=1` is no number. `AsYouTypeFormatter` shows what `Database.typed` does: unlike
 there, keys that begin with a national or an international prefix often stay without marks until
-the number is whole. `PhoneNumberMatcher` finds what `Database.matches` does; the two levels that look
-at grouping aren't offered.
+the number is whole. `PhoneNumberMatcher` finds what `Database.matches` does.
 """
 
 from __future__ import annotations
@@ -34,7 +33,7 @@ from typing import Any, Dict, FrozenSet, List, Optional, Tuple
 from .. import _of_regions, _regions
 from .._dialling import (
     format_by_pattern, format_in_original_format, format_number, format_number_for_mobile_dialing,
-    format_out_of_country_calling_number,
+    format_out_of_country_calling_number, format_out_of_country_keeping_alpha_chars,
 )
 from .._matches import Leniency, PhoneNumberMatch, PhoneNumberMatcher
 from .._metadata import NumberFormat, PhoneMetadata, PhoneNumberDesc
@@ -68,6 +67,7 @@ from .._shorts import (
 )
 from ..errors import NoNumber, UnknownRegion
 from ..number import Kind, Source
+from ..questions import extract as _extract
 
 __all__ = [
     "AsYouTypeFormatter", "COUNTRY_CODES_FOR_NON_GEO_REGIONS", "COUNTRY_CODE_TO_REGION_CODE",
@@ -83,7 +83,7 @@ __all__ = [
     "format_national_number_with_carrier_code",
     "format_national_number_with_preferred_carrier_code", "format_number",
     "format_number_for_mobile_dialing", "format_out_of_country_calling_number",
-    "invalid_example_number", "is_alpha_number", "is_carrier_specific",
+    "format_out_of_country_keeping_alpha_chars", "invalid_example_number", "is_alpha_number", "is_carrier_specific",
     "is_carrier_specific_for_region", "is_emergency_number", "is_mobile_number_portable_region",
     "is_nanpa_country", "is_number_geographical", "is_number_match", "is_number_type_geographical",
     "is_possible_number", "is_possible_number_for_type", "is_possible_number_for_type_with_reason",
@@ -211,14 +211,14 @@ def is_possible_number_string(number: str, region_dialing_from: Optional[str]) -
 
 def example_number_for_type(region_code: Optional[str], num_type: int) -> Optional[PhoneNumber]:
     """An example of the numbers of a kind in a region, or in any where that is `None`."""
-    supported = _of_regions.constant("SUPPORTED_REGIONS")
-    regions = sorted(supported) if region_code is None else [region_code]
     kinds = [kind for kind, it in TYPES.items() if it == num_type and kind != Kind.UNKNOWN]
+    if region_code is not None and not is_supported(region_code):
+        return None
     for kind in kinds:
-        for it in supported.intersection(regions):
-            read = _regions.world().example(it, kind)
-            if read is not None:
-                return plain_number(read)
+        world = _regions.world()
+        read = world.example(region_code, kind) if region_code else world.example_of_kind(kind)
+        if read is not None:
+            return plain_number(read)
     return None
 
 
@@ -240,6 +240,11 @@ def invalid_example_number(region_code: Optional[str]) -> Optional[PhoneNumber]:
     except UnknownRegion:
         return None
     return None if read is None else plain_number(read)
+
+
+def _extract_possible_number(number: str) -> str:
+    """The part of a text in which a number may stand; empty where there is none."""
+    return _extract(number)
 
 
 class AsYouTypeFormatter:

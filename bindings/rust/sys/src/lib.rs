@@ -465,6 +465,19 @@ unsafe extern "C" {
         out_len: usize,
         wrote: *mut usize,
     ) -> u32;
+    pub fn phone_matches_by(
+        handle: *mut Handle,
+        alternates: *mut Handle,
+        hint: *const u8,
+        hint_len: usize,
+        leniency: u32,
+        tries: u64,
+        text: *const u8,
+        text_len: usize,
+        out: *mut Place,
+        out_len: usize,
+        wrote: *mut usize,
+    ) -> u32;
     pub fn phone_key(number: *const Number, out: *mut u8, out_len: usize, wrote: *mut usize) -> u32;
     pub fn phone_is_viable(text: *const u8, text_len: usize, told: *mut u8) -> u32;
     pub fn phone_status_words(status: u32, out: *mut u8, out_len: usize, wrote: *mut usize) -> u32;
@@ -573,6 +586,82 @@ unsafe extern "C" {
         out: *mut u8,
         out_len: usize,
         wrote: *mut usize,
+    ) -> u32;
+    pub fn phone_text_with_letters(
+        handle: *mut Handle,
+        region: *const u8,
+        region_len: usize,
+        raw: *const u8,
+        raw_len: usize,
+        number: *const Number,
+        bytes: *const u8,
+        bytes_len: usize,
+        out: *mut u8,
+        out_len: usize,
+        wrote: *mut usize,
+    ) -> u32;
+    pub fn phone_dialled_with_letters(
+        handle: *mut Handle,
+        region: *const u8,
+        region_len: usize,
+        raw: *const u8,
+        raw_len: usize,
+        number: *const Number,
+        bytes: *const u8,
+        bytes_len: usize,
+        out: *mut u8,
+        out_len: usize,
+        wrote: *mut usize,
+    ) -> u32;
+    pub fn phone_extract(text: *const u8, text_len: usize, out: *mut u8, out_len: usize, wrote: *mut usize) -> u32;
+    pub fn phone_example_of_kind(
+        handle: *mut Handle,
+        kind: u32,
+        number: *mut Number,
+        out: *mut u8,
+        out_len: usize,
+        wrote: *mut usize,
+    ) -> u32;
+    pub fn phone_own_mobile_text(
+        handle: *mut Handle,
+        id: *const u8,
+        id_len: usize,
+        with_symbols: u8,
+        number: *const Number,
+        bytes: *const u8,
+        bytes_len: usize,
+        out: *mut u8,
+        out_len: usize,
+        wrote: *mut usize,
+    ) -> u32;
+    pub fn phone_reaches_from_abroad(handle: *mut Handle, number: *const Number, told: *mut u8) -> u32;
+    pub fn phone_known_cost(handle: *mut Handle, shorts: *mut Handle, number: *const Number, told: *mut u32) -> u32;
+    pub fn phone_own_possibility(handle: *mut Handle, kind: u32, number: *const Number, told: *mut u32) -> u32;
+    pub fn phone_own_match_numbers(
+        first: *const Number,
+        first_bytes: *const u8,
+        first_bytes_len: usize,
+        second: *const Number,
+        second_bytes: *const u8,
+        second_bytes_len: usize,
+        told: *mut u32,
+    ) -> u32;
+    pub fn phone_own_match_text(
+        handle: *mut Handle,
+        number: *const Number,
+        bytes: *const u8,
+        bytes_len: usize,
+        text: *const u8,
+        text_len: usize,
+        told: *mut u32,
+    ) -> u32;
+    pub fn phone_own_match_texts(
+        handle: *mut Handle,
+        first: *const u8,
+        first_len: usize,
+        second: *const u8,
+        second_len: usize,
+        told: *mut u32,
     ) -> u32;
 }
 

@@ -1,0 +1,3 @@
+pub mod OneAnswers
+pub mod OneMatches
+pub mod OneWays

@@ -1,0 +1,4 @@
+pub mod Examples
+pub mod Letters
+pub mod Matches
+pub mod Own
