@@ -19,6 +19,7 @@
     extern const uint8_t name##_first[], name##_end[]
 EMBED(world, "world.compact");
 EMBED(short_numbers, "short.json");
+EMBED(alternates, "alternates.json");
 EMBED(timezones, "timezones.tsv");
 EMBED(carriers, "carriers.tsv");
 EMBED(areas, "areas.tsv");
@@ -28,6 +29,7 @@ EMBED(version, "VERSION");
 static const struct { const char *option, *path; const uint8_t *first, *end; } TABLES[] = {
     {"--database", "tables:/world.compact", world_first, world_end},
     {"--short-database", "tables:/short.json", short_numbers_first, short_numbers_end},
+    {"--alternates", "tables:/alternates.json", alternates_first, alternates_end},
     {"--time-zones", "tables:/timezones.tsv", timezones_first, timezones_end},
     {"--carriers", "tables:/carriers.tsv", carriers_first, carriers_end},
     {"--areas", "tables:/areas.tsv", areas_first, areas_end},

@@ -1,4 +1,5 @@
-"""Random lines for the second reading, each a hint and a text: what tools/fuzz --rules library asks of two programs.
+"""Random lines for the second reading, each a hint and a text: what tools/fuzz --rules library asks of two programs; and random running
+texts with such lines in them, for tools/fuzz --find.
 
 Most of the texts are made from a record's own patterns: a number that one of its descriptors takes, behind its prefixes or its
 code, with what libphonenumber's rules tell apart: each form of an extension, `;phone-context=` and `;isub=`, letters of the
@@ -190,6 +191,55 @@ def line(seed, database, place, records):
         for _ in range(rng.randint(1, 3)):
             text = rows.edited(rng, text)
     return hint_for(rng, records, record, form), known(text.replace("\n", " "))
+
+
+# ------------------------------------------------------------------ running texts
+
+LENIENCIES = ("POSSIBLE", "VALID", "VALID", "STRICT_GROUPING", "EXACT_GROUPING")
+# What stands between numbers, and what isn't one, with digits.
+BETWEEN = (
+    " ", " ", ", ", "; ", " / ", "/", " or ", "\n", " (", ") ", ". ", " - ", "\u2013", "\u3000", "\u3001", "[", "]", "\uff08", "\uff09 ", "%", "\u20ac", "x", " x", "a",
+    "\u00e9", "\u0301", "\u044f", "\u4e2d", "\t", "\\", " \\ x", "#", ":", "_", "*", "+", "~", "  ", " \u00a0",
+)
+OTHERS = (
+    "3/10/2011", "10-03-1984", "2012-01-02 08:00", "2012 08:00", "1/12/2011 14:05", "12-34 (5)", "1-23 (456", "24/7", "17:30", "$12.50", "100%", "No. 4",
+    "Room 5", "ISBN 978-4-2501", "4111 1111 1111 1111", "1.5", "192.168.0.1", "1)", "(2)", "a1b2", "x",
+)
+
+
+def grouped(rng, digits):
+    """Digits in groups, with one sign between them or with several."""
+    sign = rng.choice((" ", "-", ".", "/", ") ", "\u2010", "\uff0d", " - "))
+    out = digits[:1]
+    for digit in digits[1:]:
+        out += (sign if rows.one_in(rng, 3) else "") + digit
+    return out
+
+
+def found_piece(rng, record):
+    """A part of a running text: a number in some form, or what isn't one."""
+    choice = rng.randrange(8)
+    if choice < 3:
+        return rng.choice(FORMS)(rng, record.territory(rng))[:60]
+    if choice < 6:
+        territory = record.territory(rng)
+        front = rng.choice((f"+{record.code} ", f"+{record.code}", territory.national_prefix, "(" + territory.national_prefix, ""))
+        return front + grouped(rng, rows.digits_for(rng, territory)) + (extension(rng) if rows.one_in(rng, 5) else "")
+    return rng.choice(OTHERS)
+
+
+def running(seed, place, records):
+    """The hint, the leniency and the running text at a place."""
+    rng = rows.source(seed, "running", place)
+    record = rng.choice(records)
+    text = rng.choice(BETWEEN) if rows.one_in(rng, 4) else ""
+    for _ in range(rng.randint(1, 4)):
+        text += found_piece(rng, record) + some(rng, BETWEEN, 2)
+    if rows.one_in(rng, 3):
+        for _ in range(rng.randint(1, 3)):
+            text = rows.edited(rng, text)
+    hint = "-" if rows.one_in(rng, 10) or record.id == "001" else record.id
+    return hint, rng.choice(LENIENCIES), known(text)
 
 
 # ------------------------------------------------------------------ databases

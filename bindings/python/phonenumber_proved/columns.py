@@ -150,11 +150,14 @@ class Piece:
             return self._but_absent(list(map(bool, data)))
         return self._but_absent(data.cast(_FORMATS[column]).tolist())
 
+    def make(self, columns: Sequence[Column]) -> None:
+        """Makes the lists of these columns, which are held from then on."""
+        self._made.update((it, self._values(it)) for it in columns)
+
     def values(self, column: Column) -> List[Any]:
-        """The values of a column, which are made once."""
-        if column not in self._made:
-            self._made[column] = self._values(column)
-        return self._made[column]
+        """The values of a column."""
+        made = self._made.get(column)
+        return self._values(column) if made is None else made
 
 
 class _Regions(Dict[int, Optional[str]]):
@@ -189,8 +192,7 @@ class Told:
         self.columns = list(columns)
         self.pieces: List[Piece] = []
         for piece in pieces:
-            for it in listed:
-                piece.values(it)
+            piece.make(listed)
             self.pieces.append(piece)
 
     def __len__(self) -> int:

@@ -2,7 +2,10 @@
 use Rattle.std.proofs.Common.{◌≡◌, ◌⊎◌, ⊎_elim, inl, inr, ℕ, true, false, List, []}
 use Rattle.std.proofs.Common.{◌∷◌, ◌++◌}
 use Rattle.std.proofs.Common.{take, drop, length, Option, None, Some, refl, sym, ap, subst, ◌∙◌}
-use Rattle.std.proofs.Common.{arith, is_some, true≢false}
+use Rattle.std.proofs.Common.{arith, chars, is_some, true≢false, unwrap_or, Bool}
+use Rattle.std.specs.Borrow.{Bor}
+use Rattle.std.specs.Option.{option_copied}
+use Rattle.std.specs.Result.{result_ok}
 use Rattle.std.proofs.Math.Seq.{take-append_seam}
 use Rattle.std.proofs.lemmas.Bool.{cases_lt, or_parts}
 use Rattle.std.proofs.lemmas.List.{take-append-drop}
@@ -20,7 +23,18 @@ use Rattle.phone_prefixes.specs.Marks.{Begins}
 use Rattle.phone_prefixes.specs.Tables.{AreEntries, Entry, IsLongest, IsTable, NoneBegins}
 use Rattle.phone_prefixes.specs.Tables.AreEntries.{none as no_entries, next as next_entry}
 use Rattle.phone_records.specs.declared.loader.Metadata.{Metadata}
-use Rattle.phone_answers.specs.Extras.{AreTold, HaveOneText, IsFound, IsPartOrFound, IsTold, entries_in, looked_up, part_of, IsToldBeside, IsToldBy, IsToldIf, ask_fields, split_in, tells_doubts, tells_of_field}
+use Rattle.phone_answers.specs.Extras.{AreTold, HaveOneText, IsAreaIn, IsFound, IsIf, IsOfTables, IsPartOr, IsSpoken, IsTold, entries_in, part_of}
+use Rattle.phone_answers.specs.Extras.{IsToldBeside, IsToldBy, IsToldIf, ask_fields, split_in, tells_doubts, tells_of_field, zone_digits}
+use Rattle.phone_answers.specs.declared.extra.Told.{Told}
+use Rattle.phone_answers.specs.declared.extra.Told.TheVariants as kind
+use Rattle.phone_languages.specs.Told.{IsTextIn, told as text_told}
+use Rattle.phone_library_laws.proofs.ReadOnce.{reading_some}
+use Rattle.phone_library_text.proofs.WrittenSome.{some_written}
+use Rattle.phone_maps.specs.Maps.{digits_of}
+use Rattle.phone_places.specs.Areas.{IsOther, behind_token}
+use Rattle.phone_values.specs.Numbers.{text_of}
+use Rattle.phone_values.specs.declared.country.Id.TheVariants.{AR}
+use Rattle.phone_values.specs.declared.kind.«Type».{«Type»}
 use Rattle.phone_answers.specs.declared.split.Shown.{Shown}
 use Rattle.phone_answers.specs.declared.split.Which.{Which}
 use Rattle.phone_answers.specs.Extras.AreTold.{none as told_none, next as told_next}
@@ -154,18 +168,63 @@ pub loaded_one : (bytes : List ℕ) (entries : List Entry) → IsTable bytes ent
     HaveOneText entries
 loaded_one bytes entries (lines, cut, are) = entries_one lines entries are
 
--- a part, or what a table has
-part_some : (part : Option (List ℕ)) (entries : List Entry) (digits : Option (List ℕ)) →
-    (text : List ℕ) × IsPartOrFound part entries digits text
-part_some (Some part) entries digits = (part, refl)
-part_some None entries digits = found_some entries digits
+-- what a table that may be there has for digits
+text_some : (table : Option (Bor (List Entry))) (digits : List ℕ) → (text : Option (List ℕ)) × IsTextIn (option_copied table) digits text
+text_some None digits = (None, refl)
+text_some (Some table) digits = by (has_longest table.now digits)
+  where
+    by : HasLongest table.now digits → (text : Option (List ℕ)) × IsTextIn (Some table.now) digits text
+    by (inl (e, h)) = (Some e.text, (e.prefix, h))
+    by (inr none) = (None, none)
+
+-- what a column's tables have for them
+spoken_some : (c : Extra) (digits : List ℕ) → (text : List ℕ) × IsSpoken c digits text
+spoken_some c digits =
+    let own = text_some c.own digits in
+    let english = text_some c.table digits in
+    (text_told c.locale.now own.0 english.0, (own.0, english.0, own.1, english.1, refl))
+
+-- what holds of some text holds of one, or a text is empty; so with a part
+if_some : (b : Bool) (IsSo : List ℕ → Type 0) → (text : List ℕ) × IsSo text → (text : List ℕ) × IsIf b IsSo text
+if_some true IsSo some = some
+if_some false IsSo some = ([], refl)
+
+part_some : (part : Option (List ℕ)) (IsSo : List ℕ → Type 0) → (text : List ℕ) × IsSo text → (text : List ℕ) × IsPartOr part IsSo text
+part_some (Some part) IsSo some = (part, refl)
+part_some None IsSo some = some
 
 module _ (rules : Rules) (db : List Metadata) where
+  -- a text is read in Argentina as a number, or isn't
+  other_some : (digits : Option (List ℕ)) → (m : Option Reading) × IsOther db digits m
+  other_some None = (None, refl)
+  other_some (Some digits) =
+      let w = some_written (chars digits) in
+      let r = reading_some db (Some AR) (chars digits) w.0 w.1 in
+      (result_ok r.0, (r.0, r.1, refl))
+
+  area_some : (c : Extra) (n : Reading) → (text : List ℕ) × IsAreaIn db c n text
+  area_some c n =
+      let m = other_some (behind_token n.code.value (text_of n.national)) in
+      let t = spoken_some c (digits_of (unwrap_or m.0 n)) in
+      (t.0, (m.0, m.1, t.1))
+
+  -- what a column's tables tell
+  tables_some : (c : Extra) (told : Told) (type : «Type») (region : Option Id) (n : Reading) → (text : List ℕ) × IsOfTables db c told type region n text
+  tables_some c kind.Prefix type region n = found_some (entries_in c.table) (Some (digits_of n))
+  tables_some c kind.TimeZones type region n = found_some (entries_in c.table) (zone_digits type n)
+  tables_some c (kind.Carrier owner) type region n = if_some _ (IsSpoken c (digits_of n)) (spoken_some c (digits_of n))
+  tables_some c kind.Area type region n = if_some _ (IsAreaIn db c n) (area_some c n)
+  tables_some c kind.Extension type region n = ([], refl)
+  tables_some c kind.CallingCode type region n = ([], refl)
+  tables_some c kind.NationalNumber type region n = ([], refl)
+  tables_some c kind.Doubts type region n = ([], refl)
+  tables_some c (kind.Split which shown) type region n = ([], refl)
+
   by_some : (under : Option (Option Id)) (field : List ℕ) (column : Extra) (number : Option Reading) →
-      (text : List ℕ) × IsToldBy rules db under field number (entries_in column.table) column.told text
+      (text : List ℕ) × IsToldBy rules db under field number column text
   by_some under field column None = ([], refl)
-  by_some under field column (Some n) = part_some (part_of column.told n) (entries_in column.table)
-      (looked_up db column.told (kind_by rules db n) (region_by rules db n) n)
+  by_some under field column (Some n) =
+      part_some (part_of column.told n) _ (tables_some column column.told (kind_by rules db n) (region_by rules db n) n)
 
   beside_some : (under : Option (Option Id)) (field : List ℕ) (column : Extra) (number : Option Reading) (split : Option (Which × Shown)) → is_some split ≡ false →
       (text : List ℕ) × IsToldBeside split rules db under field number column text

@@ -3,7 +3,7 @@ use Rattle.std.specs.Prelude.{◌≡◌, ◌⊎◌, ◌&&◌, ◌||◌, not, Boo
 use Rattle.std.specs.Prelude.{if◌then◌else◌, Option, None, Some, is_some, unwrap_or}
 use Rattle.std.specs.Borrow.{Bor}
 use Rattle.std.specs.List.{AllByRecursion, Contains, list_any}
-use Rattle.std.specs.Option.{option_map_or}
+use Rattle.std.specs.Option.{option_copied, option_map_or}
 use Rattle.std.specs.Str.{IsUtf8}
 use Rattle.phone_values.specs.Ids.{name}
 use Rattle.phone_values.specs.Numbers.{text_of}
@@ -15,7 +15,9 @@ use Rattle.phone_csv.specs.Formats.{Record}
 use Rattle.phone_plans.specs.Records.{last_with}
 use Rattle.phone_records.specs.declared.loader.Metadata.{Metadata}
 use Rattle.phone_prefixes.specs.Tables.{Entry, IsLongest, NoneBegins}
+use Rattle.phone_languages.specs.Told.{IsTold as IsTextTold}
 use Rattle.phone_maps.specs.Maps.{code_digits, digits_of, has_carrier, is_first, is_geographical}
+use Rattle.phone_places.specs.Areas.{IsOther, behind_token}
 use Rattle.phone_doubts.specs.Doubts.{IsDoubted}
 use Rattle.phone_engine.specs.Facts.{kind_by, region_by}
 use Rattle.phone_values.specs.declared.rules.Rules.{Rules}
@@ -39,19 +41,11 @@ is_portable db None = false
 is_portable db (Some region) =
     option_map_or (λ m. m.mobile_number_portable) (last_with (name region) db) false
 
--- the digits by which a number of this kind and region is looked up: none where no table tells the
--- column, or has nothing to tell; for the time zones of a number that belongs to no place in its
--- country those of its calling code
-abbrev pub looked_up : List Metadata → Told → «Type» → Option Id → Reading → Option (List ℕ)
-looked_up db Prefix kind region n = Some (digits_of n)
-looked_up db TimeZones kind region n = if is_unknown kind then None
+-- the digits by which the time zones of a number of this kind are looked up: none of unknown kind;
+-- those of its calling code, where it belongs to no place in its country
+abbrev pub zone_digits : «Type» → Reading → Option (List ℕ)
+zone_digits kind n = if is_unknown kind then None
     else Some (if is_geographical kind n.code.value then digits_of n else code_digits n)
-looked_up db (Carrier owner) kind region n =
-    if has_carrier kind && (is_first owner || not (is_portable db region))
-    then Some (digits_of n) else None
-looked_up db Area kind region n =
-    if is_geographical kind n.code.value then Some (digits_of n) else None
-looked_up db other kind region n = None
 
 -- a text is that of the longest prefix that begins the digits; empty where none does, and where
 -- there are no digits
@@ -66,6 +60,38 @@ abbrev pub entries_in : Option (Bor (List Entry)) → List Entry
 entries_in None = []
 entries_in (Some table) = table.now
 
+-- a text is what a column's tables have for digits in its locale: its language's, with the English
+-- one behind it
+abbrev pub IsSpoken : Extra → (digits text : List ℕ) → Type 0
+IsSpoken c digits text =
+    IsTextTold c.locale.now (option_copied c.own) (option_copied c.table) digits text
+
+-- a text is the area of a number in a column's locale: that of the number which is read behind
+-- Argentina's mobile token, where there is one
+abbrev pub IsAreaIn : List Metadata → Extra → Reading → List ℕ → Type 0
+IsAreaIn db c n text = (m : Option Reading) ×
+    IsOther db (behind_token n.code.value (text_of n.national)) m ×
+    IsSpoken c (digits_of (unwrap_or m n)) text
+
+-- a text is so where this holds; else it is empty
+abbrev pub IsIf : Bool → (List ℕ → Type 0) → List ℕ → Type 0
+IsIf true IsSo text = IsSo text
+IsIf false IsSo text = text ≡ []
+
+-- a text is what the tables of a column tell of a number of this kind and region: nothing where no
+-- table tells the column
+abbrev pub IsOfTables : List Metadata → Extra → Told → «Type» → Option Id → Reading → List ℕ →
+    Type 0
+IsOfTables db c Prefix kind region n text = IsFound (entries_in c.table) (Some (digits_of n)) text
+IsOfTables db c TimeZones kind region n text =
+    IsFound (entries_in c.table) (zone_digits kind n) text
+IsOfTables db c (Carrier owner) kind region n text =
+    IsIf (has_carrier kind && (is_first owner || not (is_portable db region)))
+    (IsSpoken c (digits_of n)) text
+IsOfTables db c Area kind region n text =
+    IsIf (is_geographical kind n.code.value) (IsAreaIn db c n) text
+IsOfTables db c other kind region n text = text ≡ []
+
 -- the part of a number that is told: its extension, which is empty where it has none; the digits of
 -- its calling code; its national number, the leading zeros with the value; none where a table tells
 abbrev pub part_of : Told → Reading → Option (List ℕ)
@@ -74,18 +100,17 @@ part_of CallingCode n = Some (code_digits n)
 part_of NationalNumber n = Some (text_of n.national)
 part_of told n = None
 
--- a text is this part; without one it is what a table has for these digits
-abbrev pub IsPartOrFound : Option (List ℕ) → List Entry → Option (List ℕ) → List ℕ → Type 0
-IsPartOrFound (Some part) entries digits text = text ≡ part
-IsPartOrFound None entries digits text = IsFound entries digits text
+-- a text is this part; without one it is so
+abbrev pub IsPartOr : Option (List ℕ) → (List ℕ → Type 0) → List ℕ → Type 0
+IsPartOr (Some part) IsSo text = text ≡ part
+IsPartOr None IsSo text = IsSo text
 
 -- what is told of a field that was read under a hint, where it was: nothing where it has no number
 abbrev pub IsToldBy : Rules → List Metadata → (under : Option (Option Id)) → (field : List ℕ) →
-    Option Reading → List Entry → Told → List ℕ → Type 0
-IsToldBy rules db under field None entries told text = text ≡ []
-IsToldBy rules db under field (Some n) entries told text =
-    IsPartOrFound (part_of told n) entries
-    (looked_up db told (kind_by rules db n) (region_by rules db n) n) text
+    Option Reading → Extra → List ℕ → Type 0
+IsToldBy rules db under field None c text = text ≡ []
+IsToldBy rules db under field (Some n) c text = IsPartOr (part_of c.told n)
+    (IsOfTables db c c.told (kind_by rules db n) (region_by rules db n) n) text
 
 -- the words of what is suspicious about such a field; nothing where it wasn't read, or its bytes
 -- are no text
@@ -116,7 +141,7 @@ abbrev pub IsToldBeside : Option (Which × Shown) → Rules → List Metadata �
 IsToldBeside (Some (which, shown)) rules db under field number column text =
     IsSplit rules db under field which shown text
 IsToldBeside None rules db under field number column text =
-    IsToldBy rules db under field number (entries_in column.table) column.told text
+    IsToldBy rules db under field number column text
 
 -- the same, or what is suspicious
 abbrev pub IsToldIf : Bool → Rules → List Metadata → (under : Option (Option Id)) →
@@ -150,6 +175,7 @@ abbrev pub HaveOneText : List Entry → Type 0
 HaveOneText entries = (a b : Entry) → Contains entries a → Contains entries b →
     a.prefix ≡ b.prefix → a.text ≡ b.text
 
--- so have those of each column's table
+-- so have those of each column's tables
 abbrev pub EachHasOneText : List Extra → Type 0
-EachHasOneText extra = AllByRecursion (λ column. HaveOneText (entries_in column.table)) extra
+EachHasOneText extra = AllByRecursion (λ (column : Extra).
+    HaveOneText (entries_in column.table) × HaveOneText (entries_in column.own)) extra

@@ -10,11 +10,11 @@ ghost use Rattle.phone_csv.specs.Formats.{Record};
 ghost use Rattle.phone_maps.specs.Maps.{code_digits, digits_of, has_carrier, is_first};
 ghost use Rattle.phone_maps.specs.Maps.{is_geographical};
 ghost use Rattle.phone_values.specs.Numbers.{text_of as national_text};
-ghost use Rattle.phone_answers.specs.Extras.{AreTold, IsFound, IsPartOrFound, IsSuspicion, IsTold};
-ghost use Rattle.phone_answers.specs.Extras.{IsToldBeside, split_in};
-ghost use Rattle.phone_answers.specs.Splits.{IsSplit};
+ghost use Rattle.phone_answers.specs.Extras.{AreTold, IsAreaIn, IsFound, IsIf, IsOfTables};
+ghost use Rattle.phone_answers.specs.Extras.{IsPartOr, IsSpoken, IsSuspicion, IsTold, IsToldBeside};
 ghost use Rattle.phone_answers.specs.Extras.{IsToldBy, entries_in, is_portable, is_unknown};
-ghost use Rattle.phone_answers.specs.Extras.{looked_up, part_of, tells_doubts};
+ghost use Rattle.phone_answers.specs.Extras.{part_of, split_in, tells_doubts, zone_digits};
+ghost use Rattle.phone_answers.specs.Splits.{IsSplit};
 ghost use Rattle.phone_answers.specs.Spelled.{IsKnownIn, number_in};
 
 use crate::answer::{Answer, Known};
@@ -24,7 +24,9 @@ use csv::ByteRecord;
 use itoa::Buffer;
 use phone_doubts::doubts;
 use phone_engine::Engine;
+use phone_languages::{Atlas, Locale, Texts, text_told};
 use phone_maps::{Owner, has_carrier, is_geographical};
+use phone_places::area;
 use phone_plans::Plans;
 use phone_prefixes::Prefixes;
 use phone_print::written::text_of_value;
@@ -52,7 +54,7 @@ pub enum Told {
     /// Its carrier, where it is a mobile number, one that may be, or a pager's. For `Owner::Today`
     /// none where its region lets mobile numbers be kept when the carrier changes.
     Carrier(Owner),
-    /// Its area; none where it belongs to no place in its country.
+    /// Its area, as `phone_places::area` has it; none where it belongs to no place in its country.
     Area,
     /// The words of what is suspicious about the field, as `phone_doubts::doubts` has them; also
     /// where no number was read.
@@ -69,8 +71,13 @@ pub struct Extra<'a> {
     pub heading: &'a str,
     /// What it tells.
     pub told: Told,
-    /// The table by which it tells that, where a table does; without it nothing is told then.
+    /// The table by which it tells that, where a table does; without it nothing is told then. Of
+    /// carriers and areas it is the English one.
     pub table: Option<&'a Prefixes>,
+    /// That of the locale's language, which carriers and areas are asked of before.
+    pub own: Option<&'a Prefixes>,
+    /// The locale in which carriers and areas are told.
+    pub locale: &'a Locale,
 }
 
 /// The text of the longest prefix of a table that begins these digits; empty where none does.
@@ -93,12 +100,60 @@ fn text_of<'a>(table: Option<&'a Prefixes>, digits: &str) -> &'a str
     }
 }
 
-/// The same where this holds; else an empty text.
-fn text_if<'a>(table: Option<&'a Prefixes>, holds: bool, digits: &str) -> &'a str
-    ensures { IsFound (entries_in table.entry) (if holds then Some digits.now else None)
-        result.now }
+/// The two tables by which a column tells carriers or areas.
+fn texts_of<'a>(column: &Extra<'a>) -> Texts<'a>
+    ensures own { result.own ≡ column.now.own }
+    ensures english { result.english ≡ column.now.table }
 {
-    if holds { text_of(table, digits) } else { "" }
+    Texts {
+        own: column.own,
+        english: column.table,
+    }
+}
+
+/// What a column's tables have for digits, in its locale, where this holds; else an empty text.
+fn spoken_if<'a>(column: &Extra<'a>, holds: bool, digits: &str) -> &'a str
+    ensures { IsIf holds (IsSpoken column.now digits.now) result.now }
+{
+    if holds {
+        text_told(column.locale, texts_of(column), digits)
+    } else {
+        ""
+    }
+}
+
+/// The area of a number in a column's locale. Refused only for memory.
+fn area_in<'a>(
+    database: &Plans,
+    column: &Extra<'a>,
+    number: &PhoneNumber,
+) -> Result<&'a str, AllocError>
+    ensures { IfOk result (λ text. IsAreaIn database.now column.now number.now text.now) }
+{
+    let atlas = Atlas {
+        locale: column.locale,
+        areas: texts_of(column),
+        carriers: texts_of(column),
+        names: &[],
+    };
+    area(database, &atlas, number)
+}
+
+/// The same where this holds; else an empty text.
+fn area_if<'a>(
+    database: &Plans,
+    column: &Extra<'a>,
+    holds: bool,
+    number: &PhoneNumber,
+) -> Result<&'a str, AllocError>
+    ensures { IfOk result (λ text. IsIf holds (IsAreaIn database.now column.now number.now)
+        text.now) }
+{
+    if holds {
+        area_in(database, column, number)
+    } else {
+        Ok("")
+    }
 }
 
 /// The text of the longest prefix that begins a calling code; empty where none does.
@@ -146,9 +201,7 @@ fn zones_of<'a>(
     digits: &str,
 ) -> &'a str
     requires { digits.now ≡ digits_of number.now }
-    ensures { IsFound (entries_in table.entry) (if is_unknown kind then None
-        else Some (if is_geographical kind number.now.code.value then digits_of number.now
-        else code_digits number.now)) result.now }
+    ensures { IsFound (entries_in table.entry) (zone_digits kind number.now) result.now }
 {
     let code = number.code().value();
     if is_unknown(kind) {
@@ -160,32 +213,32 @@ fn zones_of<'a>(
     }
 }
 
-/// What the table of a column tells of a number whose digits these are; nothing where no table
-/// tells the column.
+/// What the tables of a column tell of a number whose digits these are; nothing where no table
+/// tells the column. Refused only for memory.
 fn found<'a>(
     database: &Plans,
     column: &Extra<'a>,
     number: &PhoneNumber,
     facts: Facts,
     digits: &str,
-) -> &'a str
+) -> Result<&'a str, AllocError>
     requires { digits.now ≡ digits_of number.now }
-    ensures { IsFound (entries_in column.now.table)
-        (looked_up database.now column.now.told facts.kind facts.region number.now) result.now }
+    ensures { IfOk result (λ text. IsOfTables database.now column.now column.now.told facts.kind
+        facts.region number.now text.now) }
 {
     let Facts { kind, region, .. } = facts;
-    let table = column.table;
     match column.told {
-        Told::Prefix => text_of(table, digits),
-        Told::TimeZones => zones_of(table, number, kind, digits),
+        Told::Prefix => Ok(text_of(column.table, digits)),
+        Told::TimeZones => Ok(zones_of(column.table, number, kind, digits)),
         Told::Carrier(owner) => {
-            text_if(table, tells_carrier(database, owner, kind, region), digits)
+            let holds = tells_carrier(database, owner, kind, region);
+            Ok(spoken_if(column, holds, digits))
         }
         Told::Area => {
-            let has_area = is_geographical(kind, number.code().value());
-            text_if(table, has_area, digits)
+            let holds = is_geographical(kind, number.code().value());
+            area_if(database, column, holds, number)
         }
-        _ => "",
+        _ => Ok(""),
     }
 }
 
@@ -223,8 +276,8 @@ fn part_of<'a>(
     known: &Known,
 ) -> Result<CowStr<'a>, AllocError>
     requires { string_bytes known.now.texts.e164 ≡ 43 ∷ digits_of number.now }
-    ensures { IfOk result (λ text. IsPartOrFound (part_of column.now.told number.now)
-        (entries_in column.now.table) (looked_up database.now column.now.told known.now.facts.kind
+    ensures { IfOk result (λ text. IsPartOr (part_of column.now.told number.now)
+        (IsOfTables database.now column.now column.now.told known.now.facts.kind
         known.now.facts.region number.now) (cow_str_bytes text)) }
 {
     let alloc = database.allocator();
@@ -234,7 +287,8 @@ fn part_of<'a>(
         Told::NationalNumber => Ok(CowStr::Owned(national_of(alloc, number)?)),
         _ => {
             let digits = behind_plus(known.texts.e164.as_str());
-            Ok(CowStr::Borrowed(found(database, column, number, known.facts, digits)))
+            let text = found(database, column, number, known.facts, digits)?;
+            Ok(CowStr::Borrowed(text))
         }
     }
 }
@@ -367,7 +421,7 @@ fn told_of_number<'a>(
     requires { IsKnownIn engine.rules engine.database.now subject.answer.now }
     ensures { IfOk result (λ text. IsToldBy engine.entry.rules engine.entry.database.now
         subject.entry.under subject.entry.field.now (number_in subject.entry.answer.now)
-        (entries_in column.now.table) column.now.told (cow_str_bytes text)) }
+        column.now (cow_str_bytes text)) }
 {
     match subject.answer {
         Answer::Number(number, known) => part_of(engine.database, column, number, known),

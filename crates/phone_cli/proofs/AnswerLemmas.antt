@@ -14,6 +14,7 @@ use Rattle.phone_commands.specs.TypedLines.{typed_chars, typed_line}
 use Rattle.phone_commands.specs.declared.customers.Customers.{Customers}
 use Rattle.phone_commands.specs.declared.finder.Finder.{Finder}
 use Rattle.phone_commands.specs.declared.finder.FoundForm.{FoundForm}
+use Rattle.phone_commands.specs.declared.finder.Matching.{Matching}
 use Rattle.phone_commands.specs.declared.inputs.Failure.{Failure}
 use Rattle.phone_commands.specs.declared.jobs.JobError.{JobError}
 use Rattle.phone_commands.specs.declared.jobs.Report.{Report}
@@ -130,20 +131,22 @@ FinderBegins f head after =
 
 abbrev pub FinderGives : Finder → List ℕ → List ℕ → Finder → Type 0
 FinderGives f line answer after = IsFoundLine f.reader.engine.rules
-    f.reader.engine.database.now f.reader.engine.hint f.form (name_told f.names.now f.begun)
-    f.place line answer × (after ≡ record f { place = after_one f.place })
+    f.reader.engine.database.now f.reader.engine.hint f.matching f.form
+    (name_told f.names.now f.begun) f.place line answer ×
+    (after ≡ record f { place = after_one f.place })
 
 abbrev pub finding : Finder → Finding
 finding f = record { place = f.place; begun = f.begun }
 
-abbrev pub ReaderFinds : Reader → FoundForm → List Name → Finding → List ℕ → List ℕ → Finding →
-    Type 0
-ReaderFinds r form names =
-    GivesFound r.engine.rules r.engine.database.now r.engine.hint form names
+abbrev pub ReaderFinds : Reader → Option Matching → FoundForm → List Name → Finding → List ℕ →
+    List ℕ → Finding → Type 0
+ReaderFinds r m form names =
+    GivesFound r.engine.rules r.engine.database.now r.engine.hint m form names
 
 -- what a finder has that stays
 record IsFinderOf (f k : Finder) : Type 0 where
   reader : k.reader ≡ f.reader
+  matching : k.matching ≡ f.matching
   form : k.form ≡ f.form
   first : k.first ≡ f.first
   names : k.names ≡ f.names
@@ -152,6 +155,7 @@ after_same : (f a b : Finder) (place begun : ℕ) → IsFinderOf f a →
     b ≡ record a { place = place; begun = begun } → IsFinderOf f b
 after_same f a b place begun h e = record {
   reader = ap (λ (k : Finder). k.reader) e ∙ h.reader;
+  matching = ap (λ (k : Finder). k.matching) e ∙ h.matching;
   form = ap (λ (k : Finder). k.form) e ∙ h.form;
   first = ap (λ (k : Finder). k.first) e ∙ h.first;
   names = ap (λ (k : Finder). k.names) e ∙ h.names;
@@ -172,16 +176,20 @@ finder_begun f a head b h is = (
 
 finder_given : (f a : Finder) (line answer : List ℕ) (b : Finder) → IsFinderOf f a →
     FinderGives a line answer b →
-    ReaderFinds f.reader f.form f.names.now (finding a) line answer (finding b) ×
+    ReaderFinds f.reader f.matching f.form f.names.now (finding a) line answer (finding b) ×
     IsFinderOf f b
 finder_given f a line answer b h is =
     let by_reader = subst (λ (r : Reader). IsFoundLine r.engine.rules r.engine.database.now
-    r.engine.hint a.form (name_told a.names.now a.begun) a.place line answer) h.reader is.0 in
+    r.engine.hint a.matching a.form (name_told a.names.now a.begun) a.place line answer) h.reader
+    is.0 in
+    let by_matching = subst (λ m. IsFoundLine f.reader.engine.rules
+    f.reader.engine.database.now f.reader.engine.hint m a.form (name_told a.names.now a.begun)
+    a.place line answer) h.matching by_reader in
     let by_form = subst (λ form. IsFoundLine f.reader.engine.rules
-    f.reader.engine.database.now f.reader.engine.hint form (name_told a.names.now a.begun)
-    a.place line answer) h.form by_reader in
+    f.reader.engine.database.now f.reader.engine.hint f.matching form
+    (name_told a.names.now a.begun) a.place line answer) h.form by_matching in
     let by_names = subst (λ names. IsFoundLine f.reader.engine.rules
-    f.reader.engine.database.now f.reader.engine.hint f.form (name_told names a.begun)
+    f.reader.engine.database.now f.reader.engine.hint f.matching f.form (name_told names a.begun)
     a.place line answer) (ap (λ n. n.now) h.names) by_form in
     ((by_names, ap finding is.1), after_same f a b (after_one a.place) a.begun h is.1)
 
@@ -190,15 +198,16 @@ pub found_by : (e : Option Encoding) (files : List Name) (f : Finder) (before af
     (end : Result ⊤ Failure) →
     AnswersInputs (ActsIn e (TakesLines FinderBegins FinderGives)) files f before after last end →
     AnswersInputs (ActsIn e (TakesLines (BeginsFound f.form f.names.now f.first)
-    (ReaderFinds f.reader f.form f.names.now))) files (finding f) before after (finding last) end
+    (ReaderFinds f.reader f.matching f.form f.names.now))) files (finding f) before after
+    (finding last) end
 found_by e files f before after last end =
     answers_in (TakesLines FinderBegins FinderGives)
     (TakesLines (BeginsFound f.form f.names.now f.first)
-    (ReaderFinds f.reader f.form f.names.now)) finding (IsFinderOf f)
+    (ReaderFinds f.reader f.matching f.form f.names.now)) finding (IsFinderOf f)
     (lines_by FinderBegins FinderGives (BeginsFound f.form f.names.now f.first)
-    (ReaderFinds f.reader f.form f.names.now) finding (IsFinderOf f)
+    (ReaderFinds f.reader f.matching f.form f.names.now) finding (IsFinderOf f)
     (finder_begun f) (finder_given f)) e files f before after last end
-    (record { reader = refl; form = refl; first = refl; names = refl })
+    (record { reader = refl; matching = refl; form = refl; first = refl; names = refl })
 
 -- what is typed
 abbrev pub TypistGives : Typist → List ℕ → List ℕ → Typist → Type 0

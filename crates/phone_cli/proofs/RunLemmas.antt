@@ -29,8 +29,8 @@ use Rattle.phone_values.specs.declared.rules.Rules.{Rules}
 use Rattle.phone_words.specs.declared.call.Call.{Call}
 use Rattle.phone_words.specs.declared.command.Command.{Command}
 use Rattle.phone_words.specs.declared.command.Command.TheVariants as command
-use Rattle.phone_cli.specs.Answers.{AnswersReading, Does, IsAsked, IsLoaded, IsTableRun, Runs, finds}
-use Rattle.phone_cli.specs.Answers.{is_table, reads}
+use Rattle.phone_cli.specs.Answers.{AnswersReading, Does, IsAsked, IsLoaded, IsMatching, IsTableRun}
+use Rattle.phone_cli.specs.Answers.{Runs, finds, is_table, reads}
 use Rattle.phone_cli.specs.Answers.Does.{ran, unsummed}
 use Rattle.phone_cli.specs.Answers.Meets.{of_lines, of_table}
 use Rattle.phone_cli.specs.Answers.Runs.{firsts, found, objects, report, short, table, typed, with_input}
@@ -158,17 +158,18 @@ objects_runs c hint files o shorts before after last end is loaded rules under w
 -- found numbers
 pub found_runs : (c : Call) (hint : Option Id) (files : List Name) (f : Finder)
     (before after : Devices) (last : Finder) (end : Result ⊤ Failure) →
-    finds c.command ≡ true → f.reader.engine.rules ≡ c.rules → f.reader.engine.hint ≡ hint →
-    f.form ≡ found_form c.command → f.first ≡ after_one c.skipped →
+    finds c.command ≡ true → IsMatching c f.matching → f.reader.engine.rules ≡ c.rules →
+    f.reader.engine.hint ≡ hint → f.form ≡ found_form c.command → f.first ≡ after_one c.skipped →
     f.place ≡ after_one c.skipped → f.names.now ≡ files → f.begun ≡ 0 →
     AnswersInputs (ActsIn c.encoding (TakesLines FinderBegins FinderGives)) files f before after
     last end →
     Runs c hint files before after end
-found_runs c hint files f before after last end is rules under form first place names begun act =
+found_runs c hint files f before after last end is matching rules under form first place names
+    begun act =
     let db = f.reader.engine.database.now in
     let Told = λ (r : Rules) (h : Option Id) (form : FoundForm) (first : ℕ) (names : List Name)
     (from : Finding). AnswersInputs (ActsIn c.encoding (TakesLines (BeginsFound form names first)
-    (GivesFound r db h form names))) files from before after (finding last) end in
+    (GivesFound r db h f.matching form names))) files from before after (finding last) end in
     let own : Told f.reader.engine.rules f.reader.engine.hint f.form f.first f.names.now
     (finding f) = found_by c.encoding files f before after last end act in
     let by_rules = subst (λ x. Told x f.reader.engine.hint f.form f.first f.names.now
@@ -182,7 +183,7 @@ found_runs c hint files f before after last end is rules under form first place 
     (finding f)) names by_first in
     let by_place = subst (λ x. Told c.rules hint (found_form c.command) (after_one c.skipped)
     files (record { place = x; begun = f.begun })) place by_names in
-    found db (finding last) is
+    found db f.matching (finding last) is matching
     (subst (λ x. Told c.rules hint (found_form c.command) (after_one c.skipped) files
     (record { place = after_one c.skipped; begun = x })) begun by_place)
 

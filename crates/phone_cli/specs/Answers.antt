@@ -1,7 +1,9 @@
 -- What a call does.
 use Rattle.std.specs.Prelude.{◌≡◌, ◌||◌, ℕ, ⊤, Bool, false, true, List, ◌++◌, codes}
-use Rattle.std.specs.Prelude.{IsSome, Option, None, Some, Result, is_some, option_map, slice_get}
+use Rattle.std.specs.Prelude.{IsSome, Option, None, Some, Result, is_some, option_and_then}
+use Rattle.std.specs.Prelude.{option_map, slice_get}
 use Rattle.std.specs.List.{list_any}
+use Rattle.std.specs.Option.{option_copied}
 use Rattle.std.specs.Str.{bytes_eq}
 use Rattle.phone_commands.specs.Columns as columns
 use Rattle.phone_commands.specs.EncodedJobs.{ActsIn}
@@ -10,6 +12,7 @@ use Rattle.phone_commands.specs.Inputs.{IsStandard, Name}
 use Rattle.phone_commands.specs.Jobs.{TakesLines}
 use Rattle.phone_commands.specs.ObjectLines.{after_one}
 use Rattle.phone_commands.specs.Strays.{CountsBegin, CountsLine, no_tally, strays_of}
+use Rattle.phone_commands.specs.declared.finder.Matching.{Matching}
 use Rattle.phone_commands.specs.declared.inputs.Failure.{Failure}
 use Rattle.phone_commands.specs.declared.strays.Strays.{Strays}
 use Rattle.phone_commands.specs.declared.strays.Tally.{Tally}
@@ -31,8 +34,9 @@ use Rattle.phone_cli.specs.Abouts.{Tells, regions_text, version_text}
 use Rattle.phone_cli.specs.Commands.{AnswersInputs, BeginsFound, Finding, Tables}
 use Rattle.phone_cli.specs.Commands.{GivesFound, GivesObjects, GivesShorts, GivesTyped}
 use Rattle.phone_cli.specs.Commands.{GivesWithInput, Reports}
-use Rattle.phone_cli.specs.Commands.{found_form, no_first_lines}
-use Rattle.phone_cli.specs.Operands.{IsApart, database_of, files_of, ignores_words, is_misfit}
+use Rattle.phone_cli.specs.Commands.{found_form, leniency_of, no_first_lines}
+use Rattle.phone_cli.specs.Operands.{IsApart, alternates_of, database_of, files_of}
+use Rattle.phone_cli.specs.Operands.{ignores_words, is_misfit}
 use Rattle.phone_cli.specs.Operands.{names_read}
 use Rattle.phone_cli.specs.Operands.{region_of, shorts_of}
 use Rattle.phone_cli.specs.Statuses.{status_of}
@@ -56,7 +60,7 @@ pub record IsAsked (t : Table) (shorts : Option (List Metadata)) (a : Asked) : T
   pub is_unique : a.is_unique ≡ t.is_unique
   pub tells_duplicates : a.tells_duplicates ≡ t.duplicates
   pub front : a.front ≡ t.front
-  pub further : columns.asked a.extra.now ≡ columns.columns_for t.further
+  pub further : columns.asked a.extra.now ≡ columns.told_for t.further
   pub short : option_map (λ d. d.now) a.short ≡ shorts
   pub is_summed : a.is_summed ≡ (is_some t.summary || t.further.suspicion)
 
@@ -66,6 +70,13 @@ finds command.Find = true
 finds command.FoundObjects = true
 finds command.FoundRecords = true
 finds other = false
+
+-- libphonenumber's matcher finds the numbers of a call so, where it names a level: as strictly as
+-- that says, and by a database of other formats where one is to be read
+pub record IsMatching (c : Call) (m : Option Matching) : Type 0 where
+  pub leniency : option_map (λ (m : Matching). m.leniency) m ≡ option_map leniency_of c.level
+  pub loaded : IsLoaded (alternates_of c)
+      (option_and_then (λ (m : Matching). option_copied m.alternates) m)
 
 -- what was written is the answer of a call to its input as a table, which has these totals, read in
 -- its encoding, over some databases, by what its options ask for; or, where that failed, its front
@@ -99,10 +110,11 @@ pub data Runs (c : Call) (hint : Option Id) (files : List Name) (before after : 
       (TakesLines begins_with_nothing (GivesObjects c.rules db short hint))) files
       (after_one c.skipped) before after last end →
       Runs c hint files before after end
-  found : (db : List Metadata) → (last : Finding) → finds c.command ≡ true →
+  found : (db : List Metadata) → (m : Option Matching) → (last : Finding) →
+      finds c.command ≡ true → IsMatching c m →
       AnswersInputs (ActsIn c.encoding (TakesLines
       (BeginsFound (found_form c.command) files (after_one c.skipped))
-      (GivesFound c.rules db hint (found_form c.command) files))) files
+      (GivesFound c.rules db hint m (found_form c.command) files))) files
       (record { place = after_one c.skipped; begun = 0 }) before after last end →
       Runs c hint files before after end
   typed : (db : List Metadata) → c.command ≡ command.Typed →

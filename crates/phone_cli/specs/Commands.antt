@@ -10,12 +10,15 @@ use Rattle.phone_commands.specs.TypedLines.{typed_line}
 use Rattle.phone_commands.specs.WithInputs.{IsWithInput}
 use Rattle.phone_commands.specs.declared.finder.FoundForm.{FoundForm}
 use Rattle.phone_commands.specs.declared.finder.FoundForm.TheVariants as form
+use Rattle.phone_commands.specs.declared.finder.Matching.{Matching}
 use Rattle.phone_commands.specs.declared.inputs.Failure.{Failure}
 use Rattle.phone_commands.specs.declared.jobs.JobError.{JobError}
 use Rattle.phone_commands.specs.declared.takers.FirstLines.{FirstLines}
 use Rattle.phone_engine.specs.ReportLines.{IsReportLine}
 use Rattle.phone_lines.specs.Ends.{Devices}
 use Rattle.phone_lines.specs.Taken.{Begins, Gives, begins_with_nothing, each_by_itself}
+use Rattle.phone_matches.specs.declared.leniency.Leniency.{Leniency}
+use Rattle.phone_matches.specs.declared.leniency.Leniency.TheVariants as leniency
 use Rattle.phone_records.specs.declared.loader.Metadata.{Metadata}
 use Rattle.phone_table.specs.declared.run.Asked.{Asked}
 use Rattle.phone_table.specs.declared.summed.Totals.{Totals}
@@ -23,6 +26,8 @@ use Rattle.phone_values.specs.declared.country.Id.{Id}
 use Rattle.phone_values.specs.declared.rules.Rules.{Rules}
 use Rattle.phone_words.specs.declared.command.Command.{Command}
 use Rattle.phone_words.specs.declared.command.Command.TheVariants as command
+use Rattle.phone_words.specs.declared.values.Level.{Level}
+use Rattle.phone_words.specs.declared.values.Level.TheVariants as level
 
 -- inputs are answered so, where `acts` tells how one is: standard input where no file is named,
 -- else the files, one after the other, until one fails
@@ -61,10 +66,19 @@ BeginsFound form names first f head after =
     (head ≡ in_front form f.begun (name_told names (after_one f.begun))) ×
     (after ≡ record { place = first; begun = after_one f.begun })
 
--- `--find`: what is told of the numbers that stand in each line
-abbrev pub GivesFound : Rules → List Metadata → Option Id → FoundForm → List Name → Gives Finding
-GivesFound rules db hint form names f line answer after =
-    IsFoundLine rules db hint form (name_told names f.begun) f.place line answer ×
+-- the leniency of a level
+abbrev pub leniency_of : Level → Leniency
+leniency_of level.Possible = leniency.Possible
+leniency_of level.Valid = leniency.Valid
+leniency_of level.StrictGrouping = leniency.StrictGrouping
+leniency_of level.ExactGrouping = leniency.ExactGrouping
+
+-- `--find`: what is told of the numbers that are found in each line, perhaps by libphonenumber's
+-- matcher
+abbrev pub GivesFound : Rules → List Metadata → Option Id → Option Matching → FoundForm →
+    List Name → Gives Finding
+GivesFound rules db hint m form names f line answer after =
+    IsFoundLine rules db hint m form (name_told names f.begun) f.place line answer ×
     (after ≡ record f { place = after_one f.place })
 
 -- `--typed`: what a field that is empty first shows after each character of a line

@@ -13,6 +13,8 @@ use Rattle.phone_words.specs.Rows.{Lent, text_in}
 use Rattle.phone_words.specs.declared.call.Call.{Call}
 use Rattle.phone_words.specs.declared.command.Command.{Command}
 use Rattle.phone_words.specs.declared.command.Command.TheVariants as command
+use Rattle.phone_words.specs.declared.values.Level.{Level}
+use Rattle.phone_words.specs.declared.values.Level.TheVariants as level
 
 -- the region and the files that operands name: the first one is a region's id, in capital or small
 -- letters, or a file
@@ -68,6 +70,16 @@ shorts_by c rules other = None
 abbrev pub shorts_of : Call → Option Lent
 shorts_of c = shorts_by c c.rules c.command
 
+-- the file of the database of other formats that is read at a level: at those that ask for groups
+abbrev pub alternates_at : Option Level → Option Lent → Option Lent
+alternates_at (Some level.StrictGrouping) file = file
+alternates_at (Some level.ExactGrouping) file = file
+alternates_at other file = None
+
+-- the file of the database of other formats by which a call finds numbers
+abbrev pub alternates_of : Call → Option Lent
+alternates_of c = alternates_at c.level c.alternates
+
 -- a command reads numbers by an engine: neither as short numbers, nor to keep first lines
 abbrev pub has_reader : Command → Bool
 has_reader command.Help = false
@@ -107,7 +119,8 @@ named_files files = filter_map text_in files
 -- the names of the files that a call with a table reads or writes, but for the summary's
 abbrev pub names_taken : Call → (files : List Lent) → List (List ℕ)
 names_taken c files = input_names files ++
-    (named_files (c.database ∷ c.short_database ∷ c.table.countries ∷ c.output ∷ []) ++
+    (named_files (c.database ∷ c.short_database ∷ c.alternates ∷ c.table.countries ∷ c.output ∷
+    []) ++
     named_files (further_files c.table.further))
 
 -- the file of the summary is none of these by its name
@@ -115,9 +128,9 @@ abbrev pub IsApart : Call → (files : List Lent) → Type 0
 IsApart c files = IfSome c.table.summary
     (λ name. list_any (bytes_eq name.now) (names_taken c files) ≡ false)
 
--- the names of the files that a call reads: inputs, the database, that of short numbers, the table
--- of the names of regions, tables of prefixes
+-- the names of the files that a call reads: inputs, the database, that of short numbers, that of
+-- other formats, the table of the names of regions, tables of prefixes
 abbrev pub names_read : Call → (database : Lent) → (files : List Lent) → List (List ℕ)
 names_read c database files = input_names files ++
-    (named_files (Some database ∷ c.short_database ∷ c.table.countries ∷ []) ++
+    (named_files (Some database ∷ c.short_database ∷ c.alternates ∷ c.table.countries ∷ []) ++
     named_files (further_files c.table.further))

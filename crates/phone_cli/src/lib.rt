@@ -5,6 +5,7 @@
 mod about;
 mod beside;
 mod failures;
+mod found;
 mod made;
 mod names;
 mod operands;

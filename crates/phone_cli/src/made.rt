@@ -1,14 +1,18 @@
 //! What answers the inputs of a call, as its words ask for it.
-ghost use Rattle.std.specs.Prelude.{◌≡◌, ◌||◌, is_some, option_map};
-ghost use Rattle.phone_cli.specs.Answers.{IsAsked};
-ghost use Rattle.phone_cli.specs.Commands.{found_form};
+ghost use Rattle.std.specs.Prelude.{◌≡◌, ◌||◌, is_some, option_and_then, option_map};
+ghost use Rattle.std.specs.Option.{option_copied};
+ghost use Rattle.phone_cli.specs.Answers.{IsAsked, IsLoaded, IsMatching};
+ghost use Rattle.phone_cli.specs.Commands.{found_form, leniency_of};
+ghost use Rattle.phone_cli.specs.Operands.{alternates_of};
 ghost use Rattle.phone_commands.specs.Columns as columns;
 ghost use Rattle.phone_commands.specs.ObjectLines.{after_one};
 
 use crate::tool::Reading;
-use phone_commands::{Finder, FoundForm, Objects, Reader};
+use phone_commands::{Finder, FoundForm, Matching, Objects, Reader};
+use phone_matches::Leniency;
+use phone_plans::Plans;
 use phone_table::{Asked, Countries, Extra};
-use phone_words::{Command, Table};
+use phone_words::{Command, Level, Table};
 
 /// What answers each line by an object.
 pub(crate) fn objects_of<'d>(reading: Reading<'_, '_>, reader: Reader<'d>) -> Objects<'d>
@@ -30,9 +34,43 @@ fn found_form(command: Command) -> FoundForm
     }
 }
 
-/// What finds the numbers that stand in the inputs.
-pub(crate) fn finder_of<'d, 'l>(reading: Reading<'l, 'l>, reader: Reader<'d>) -> Finder<'d, 'l>
+/// The leniency of a level.
+fn leniency_of(level: Level) -> Leniency
+    ensures { result ≡ leniency_of level }
+{
+    match level {
+        Level::Possible => Leniency::Possible,
+        Level::Valid => Leniency::Valid,
+        Level::StrictGrouping => Leniency::StrictGrouping,
+        Level::ExactGrouping => Leniency::ExactGrouping,
+    }
+}
+
+/// How libphonenumber's matcher finds numbers, where a level is named, with this database of other
+/// formats.
+fn matching_of<'d>(level: Option<Level>, alternates: Option<&'d Plans>) -> Option<Matching<'d>>
+    ensures leniency { option_map (λ m. m.leniency) result ≡ option_map leniency_of level }
+    ensures alternates { option_and_then (λ m. option_copied m.alternates) result ≡
+        option_and_then (λ _. option_copied alternates.entry) level }
+{
+    match level {
+        Some(level) => Some(Matching {
+            leniency: leniency_of(level),
+            alternates,
+        }),
+        None => None,
+    }
+}
+
+/// What finds the numbers that stand in the inputs, with this database of other formats.
+pub(crate) fn finder_of<'d, 'l>(
+    reading: Reading<'l, 'l>,
+    reader: Reader<'d>,
+    alternates: Option<&'d Plans>,
+) -> Finder<'d, 'l>
+    requires { IsLoaded (alternates_of reading.call.now) (option_copied alternates) }
     ensures reader { result.reader ≡ reader.entry }
+    ensures matching { IsMatching reading.entry.call.now result.matching }
     ensures form { result.form ≡ found_form reading.entry.call.now.command }
     ensures first { result.first ≡ after_one reading.entry.call.now.skipped }
     ensures place { result.place ≡ after_one reading.entry.call.now.skipped }
@@ -42,6 +80,7 @@ pub(crate) fn finder_of<'d, 'l>(reading: Reading<'l, 'l>, reader: Reader<'d>) ->
     let first = reading.call.skipped.saturating_add(1);
     Finder {
         reader,
+        matching: matching_of(reading.call.level, alternates),
         form: found_form(reading.call.command),
         first,
         place: first,
@@ -57,7 +96,7 @@ pub(crate) fn asked<'t>(
     extra: &'t [Extra<'t>],
     countries: Option<&'t Countries>,
 ) -> Asked<'t>
-    ensures { columns.asked extra.entry.now ≡ columns.columns_for table.entry.further →
+    ensures { columns.asked extra.entry.now ≡ columns.told_for table.entry.further →
         is_some countries.entry ≡ is_some table.entry.countries →
         IsAsked table.entry (option_map (λ d. d.now) reader.entry.short) result }
 {

@@ -73,6 +73,10 @@ const RULES: &str = " names no rules: there are library and crate";
 const ENCODING: &str = " names no encoding: there are utf-8, utf-16, utf-16le, utf-16be, latin-1 \
     and windows-1252";
 
+/// What is told behind a word that names no level.
+const LENIENCY: &str = " names no leniency: there are possible, valid, strict-grouping and \
+    exact-grouping";
+
 /// What is told behind a mode that goes with libphonenumber's rules alone.
 const LIBRARY: &str = " knows libphonenumber's rules alone";
 
@@ -88,11 +92,13 @@ fn say_why<E: ByteSink>(errors: &mut E, why: Why, word: &str, other: &str, value
         Why::Unknown => say(errors, &["there is no option ", word, OPTIONS], 2),
         Why::NoValue => say(errors, &[word, " wants a word after it"], 2),
         Why::Together => say(errors, &[word, " and ", other, " don't go together"], 2),
+        Why::Without if value.is_empty() => say(errors, &[word, " goes with ", other], 2),
         Why::Without => say(errors, &[word, " goes with ", other, " ", value], 2),
         Why::Delimiter => say(errors, &[word, DELIMITER], 2),
         Why::Skipped => say(errors, &[word, " is no count of lines"], 2),
         Why::Rules => say(errors, &[word, RULES], 2),
         Why::Encoding => say(errors, &[word, ENCODING], 2),
+        Why::Leniency => say(errors, &[word, LENIENCY], 2),
         Why::LibraryAlone => say(errors, &[word, LIBRARY], 2),
         Why::Memory => say(errors, &["out of memory"], 1),
     }

@@ -27,7 +27,8 @@ ghost use Rattle.phone_words.specs.declared.command.Command.TheVariants as comma
 use crate::about::{write_regions, write_text, write_version};
 use crate::beside::{Place, Target, Unfinished, create_beside, place_of, put_in_place};
 use crate::failures::{say_failure, say_no_columns, say_refusal};
-use crate::made::{asked, finder_of, objects_of};
+use crate::found::found;
+use crate::made::{asked, objects_of};
 use crate::operands::{hint_and_files, say_missing};
 use crate::outlet::Outlet;
 use crate::say::{say, say_firsts, say_strays, say_taken_summary, say_word_error};
@@ -521,8 +522,7 @@ fn by_reader<R: Files + AllocGlobal, S: Inlet, W: Outlet, E: ByteSink>(
             run_lines(rt, reading, &mut taker, input, output, errors)
         }
         Command::Find | Command::FoundObjects | Command::FoundRecords => {
-            let mut taker = finder_of(reading, reader);
-            run_lines(rt, reading, &mut taker, input, output, errors)
+            found(rt, reading, reader, input, output, errors)
         }
         Command::Typed => {
             let mut taker = Typist::new(reader.engine.database, reader.engine.hint);
@@ -569,7 +569,7 @@ fn run<R: Files + AllocGlobal, S: Inlet, W: Outlet, E: ByteSink, J: Job>(
 }
 
 /// Answers the lines of the inputs, and tells of what failed, or else of those that aren't UTF-8.
-fn run_lines<R: Files + AllocGlobal, S: Inlet, W: Outlet, E: ByteSink, T: LineTaker>(
+pub(crate) fn run_lines<R: Files + AllocGlobal, S: Inlet, W: Outlet, E: ByteSink, T: LineTaker>(
     rt: &R,
     reading: Reading<'_, '_>,
     taker: &mut T,

@@ -145,6 +145,7 @@ pub(crate) fn is_read<R: Files>(rt: &R, reading: Reading<'_, '_>, name: &str) ->
     let tables = [
         Some(reading.path),
         call.short_database,
+        call.alternates,
         call.table.countries,
     ];
     is_input(rt, written, reading.files)
@@ -162,6 +163,7 @@ fn is_taken<R: Files>(rt: &R, call: &Call<'_>, files: &[&str], name: &str) -> bo
     let tables = [
         call.database,
         call.short_database,
+        call.alternates,
         call.table.countries,
         call.output,
     ];

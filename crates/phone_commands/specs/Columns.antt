@@ -1,6 +1,6 @@
 -- The further columns of a table, each by its name, what it tells, and whether by a table.
 use Rattle.std.specs.Prelude.{ℕ, Bool, false, true, List, [], ◌∷◌, ◌++◌, codes, map, Option, None}
-use Rattle.std.specs.Prelude.{Some, is_some}
+use Rattle.std.specs.Prelude.{Some, is_some, unwrap_or}
 use Rattle.phone_commands.specs.declared.columns.LoadedColumn.{LoadedColumn}
 use Rattle.phone_commands.specs.declared.columns.Wanted.{Wanted}
 use Rattle.phone_maps.specs.declared.maps.Owner.TheVariants as owner
@@ -12,7 +12,8 @@ use Rattle.phone_answers.specs.declared.extra.Told.TheVariants.{Prefix, Split, T
 use Rattle.phone_answers.specs.declared.split.Shown.TheVariants.{E164, Kind, Region}
 use Rattle.phone_answers.specs.declared.split.Which.{Which}
 use Rattle.phone_answers.specs.declared.split.Which.TheVariants.{First, Second}
-use Rattle.phone_words.specs.Rows.{Lent}
+use Rattle.phone_languages.specs.Locales.{normalized, text_file}
+use Rattle.phone_words.specs.Rows.{Lent, text_in}
 use Rattle.phone_words.specs.declared.table.Further.{Further}
 
 -- a column: its name, what it tells, and whether by a table
@@ -71,6 +72,27 @@ wanted columns = map (λ (c : Wanted). (c.heading.now, c.told, is_some c.file)) 
 abbrev pub loaded : List LoadedColumn → List Column
 loaded columns = map (λ (c : LoadedColumn). (c.heading.now, c.told, is_some c.table)) columns
 
+-- a column, and the locale in which it is told
+abbrev pub Spoken : Type 0
+Spoken = List ℕ × Told × Bool × List ℕ
+
+-- columns that are told in a locale
+abbrev pub spoken : List ℕ → List Column → List Spoken
+spoken locale columns = map (λ (c : Column). (c.0, c.1, c.2, locale)) columns
+
+-- the locale of the language that options name; English where they name none
+abbrev pub locale_for : Further → List ℕ
+locale_for f = normalized (unwrap_or (text_in f.language) (codes "en"))
+
+-- the columns that options ask for, in that locale
+abbrev pub told_for : Further → List Spoken
+told_for f = spoken (locale_for f) (columns_for f)
+
+-- the file of a locale's table, in a part of the folder of the tables by language
+abbrev pub table_file : (folder part locale : List ℕ) → List ℕ
+table_file folder part locale =
+    folder ++ 47 ∷ (part ++ 47 ∷ (text_file locale ++ codes ".tsv"))
+
 -- those that are asked of a table
-abbrev pub asked : List Extra → List Column
-asked columns = map (λ (c : Extra). (c.heading.now, c.told, is_some c.table)) columns
+abbrev pub asked : List Extra → List Spoken
+asked columns = map (λ (c : Extra). (c.heading.now, c.told, is_some c.table, c.locale.now)) columns

@@ -1,11 +1,11 @@
 -- What is told of the numbers that stand in each line.
 use Rattle.std.specs.Prelude.{◌≡◌, ℕ, suc, zero, ◌+◌, ◌-◌, nat_lt, if◌then◌else◌, List, [], ◌∷◌}
-use Rattle.std.specs.Prelude.{◌++◌, chars, codes, length, Option, None, Some, option_map}
-use Rattle.std.specs.Prelude.{slice_get, slice_range, take}
+use Rattle.std.specs.Prelude.{◌++◌, chars, codes, length, map, Option, None, Some, option_map}
+use Rattle.std.specs.Prelude.{IsCharBoundary, slice_get, slice_range, take, unwrap_or}
 use Rattle.std.specs.Borrow.{Bor}
 use Rattle.std.specs.Fmt.{decimal}
 use Rattle.std.specs.List.{AllByRecursion}
-use Rattle.std.specs.Option.{option_to_list}
+use Rattle.std.specs.Option.{option_copied, option_to_list}
 use Rattle.std.specs.Str.Lossy.{utf8_lossy}
 use Rattle.phone_csv.specs.Feeds.{counted}
 use Rattle.phone_csv.specs.Formats.{Record, record_text}
@@ -16,6 +16,10 @@ use Rattle.phone_find.specs.declared.leniency.Leniency.TheVariants.{Valid}
 use Rattle.phone_find.specs.declared.search.Found.{Found}
 use Rattle.phone_commands.specs.declared.finder.FoundForm.{FoundForm}
 use Rattle.phone_commands.specs.declared.finder.FoundForm.TheVariants as form
+use Rattle.phone_commands.specs.declared.finder.Matching.{Matching}
+use Rattle.phone_matches.specs.Numbers.{AreNumbersBy}
+use Rattle.phone_matches_search.specs.Told.{AllMatchThere, told_matches}
+use Rattle.phone_matches_search.specs.declared.places.Match.{Match}
 use Rattle.phone_plans.specs.CodeLookUps.{first_of, territories}
 use Rattle.phone_print.specs.Tabbed.{tabbed}
 use Rattle.phone_print.specs.Texts.{e164_text}
@@ -77,17 +81,57 @@ pub data AreTold (rules : Rules) (db : List Metadata) (form : FoundForm) (name :
       IsTold rules db name spot f.number form one →
       AreTold rules db form name place text (fs ++ f ∷ []) (told ++ one)
 
--- what is told of all valid numbers of a text
-abbrev pub AreToldIn : Rules → List Metadata → Option Id → FoundForm → Option (List ℕ) → ℕ →
-    List ℕ → List ℕ → Type 0
-AreToldIn rules db hint form name place text told = (all : List (Found Reading)) ×
-    AreNumbers rules db hint Valid text all × AreTold rules db form name place text all told
+-- a match by the bytes at which it begins and ends
+abbrev pub found_of : Match Reading → Found Reading
+found_of m = record {
+  start = length m.place.before.now;
+  end = length m.place.before.now + length m.place.text.now;
+  number = m.number;
+}
+
+-- a match begins at this byte, between characters, in this column
+pub record IsPlace (text : List ℕ) (m : Match Reading) (start column : ℕ) : Type 0 where
+  pub begins : start ≡ length m.place.before.now
+  pub border : IsCharBoundary text start
+  pub counts : column ≡ counted (length (chars (take start text)) + 1)
+
+-- as many tries as no text that memory holds uses up: 2^64 - 1
+abbrev pub all_tries : ℕ
+all_tries = 18446744073709551615
+
+-- these are what libphonenumber's matcher finds in a text: so strictly, by these other formats
+pub record AreMatched (db : List Metadata) (hint : Option Id) (m : Matching) (text : List ℕ)
+    (all : List (Found Reading)) : Type 0 where
+  pub matches : List (Match Reading)
+  pub numbers : AreNumbersBy db (unwrap_or (option_copied m.alternates) []) hint m.leniency
+      all_tries (chars text) (told_matches matches)
+  pub stand : AllMatchThere text matches
+  pub are : all ≡ map found_of matches
+
+-- these are found in a text: what libphonenumber's matcher finds, where that does; else the valid
+-- numbers
+abbrev pub AreFoundIn : Rules → List Metadata → Option Id → Option Matching → List ℕ →
+    List (Found Reading) → Type 0
+AreFoundIn rules db hint (Some m) text all = AreMatched db hint m text all
+AreFoundIn rules db hint None text all = AreNumbers rules db hint Valid text all
+
+-- what is told of all numbers of a text that are these
+abbrev pub AreToldOf : (List (Found Reading) → Type 0) → Rules → List Metadata → FoundForm →
+    Option (List ℕ) → ℕ → List ℕ → List ℕ → Type 0
+AreToldOf Are rules db form name place text told = (all : List (Found Reading)) × Are all ×
+    AreTold rules db form name place text all told
+
+-- what is told of all numbers that are found in a text
+abbrev pub AreToldIn : Rules → List Metadata → Option Id → Option Matching → FoundForm →
+    Option (List ℕ) → ℕ → List ℕ → List ℕ → Type 0
+AreToldIn rules db hint m form name place text told =
+    AreToldOf (AreFoundIn rules db hint m text) rules db form name place text told
 
 -- what a line is answered: the same of its text, in which bytes that aren't UTF-8 are replaced
-abbrev pub IsFoundLine : Rules → List Metadata → Option Id → FoundForm → Option (List ℕ) → ℕ →
-    List ℕ → List ℕ → Type 0
-IsFoundLine rules db hint form name place line answer =
-    AreToldIn rules db hint form name place (utf8_lossy line) answer
+abbrev pub IsFoundLine : Rules → List Metadata → Option Id → Option Matching → FoundForm →
+    Option (List ℕ) → ℕ → List ℕ → List ℕ → Type 0
+IsFoundLine rules db hint m form name place line answer =
+    AreToldIn rules db hint m form name place (utf8_lossy line) answer
 
 -- the calling code of a number has a territory
 abbrev pub HasTerritory : List Metadata → Reading → Type 0

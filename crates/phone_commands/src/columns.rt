@@ -1,15 +1,16 @@
 //! The further columns of a table, and the tables of prefixes by which they tell.
-ghost use Rattle.std.specs.Prelude.{◌≡◌, ◌++◌, ◌∷◌, [], IfOk, Ok, OnOk, is_some};
+ghost use Rattle.std.specs.Prelude.{◌≡◌, ◌++◌, ◌∷◌, [], IfOk, Ok, OnOk, is_some, string_bytes};
 ghost use Rattle.phone_csv.specs.Runs.{OfRead};
 ghost use Rattle.phone_commands.specs.Columns.{asked, column_if, columns_for, loaded, part_if};
-ghost use Rattle.phone_commands.specs.Columns.{number_for, parts_for, split_for, tables_for};
-ghost use Rattle.phone_commands.specs.Columns.{wanted};
+ghost use Rattle.phone_commands.specs.Columns.{locale_for, number_for, parts_for, split_for};
+ghost use Rattle.phone_commands.specs.Columns.{spoken, table_file, tables_for, told_for, wanted};
 ghost use Rattle.phone_commands.specs.Pairs.{IsWithTab};
 ghost use Rattle.phone_lines.specs.LineReports.{IsReport};
 
 use crate::pairs::Tabs;
 use phone_countries::CountriesError;
 use phone_device::{ByteSource, MemorySink, Std};
+use phone_languages::Locale;
 use phone_lines::{RunError, take_lines};
 use phone_prefixes::{Prefixes, PrefixesError};
 use phone_table::{Extra, Owner, Shown, Told, Which};
@@ -224,6 +225,71 @@ pub struct LoadedColumn<'w> {
     pub told: Told,
     /// The table by which it tells that, where a table does.
     pub table: Option<Prefixes>,
+    /// That of a language, where there is one.
+    pub own: Option<Prefixes>,
+}
+
+/// A locale that is named, and the folder of the tables by language.
+#[derive(Clone, Copy)]
+struct Spoken<'l, 'w> {
+    locale: &'l Locale,
+    folder: &'w str,
+}
+
+/// The part of that folder in which what a column tells stands by language; none where it doesn't.
+fn part_of(told: Told) -> Option<&'static str> {
+    match told {
+        Told::Area => Some("areas"),
+        Told::Carrier(_) => Some("carriers"),
+        _ => None,
+    }
+}
+
+/// The name of the file of a locale's table, in a part of a folder. Refused only for memory.
+fn table_file(
+    alloc: Global,
+    folder: &str,
+    part: &str,
+    locale: &Locale,
+) -> Result<String, AllocError>
+    ensures { IfOk result (λ s. string_bytes s ≡ table_file folder.now part.now locale.now) }
+{
+    let file = locale.text_file();
+    format!(in alloc; "{folder}/{part}/{file}.tsv")
+}
+
+/// The table of prefixes in a file, where there is one. Of a refusal the folder is told.
+fn table_there<'w, R: Files + AllocGlobal>(
+    rt: &R,
+    folder: &'w str,
+    name: &str,
+) -> Result<Option<Prefixes>, NoColumns<'w>> {
+    let Ok(file) = fs::open(rt, name) else {
+        return Ok(None);
+    };
+    let bytes = match bytes_with_tabs(rt.alloc(), &mut Std::new(file)) {
+        Ok(bytes) => bytes,
+        Err(error) => return Err(refused(folder, error)),
+    };
+    match Prefixes::of(rt.alloc(), bytes) {
+        Ok(table) => Ok(Some(table)),
+        Err(error) => Err(refused(folder, error)),
+    }
+}
+
+/// The table of a language by which a column tells areas or carriers, where there is one.
+fn own_table<'w, R: Files + AllocGlobal>(
+    rt: &R,
+    spoken: Option<Spoken<'_, 'w>>,
+    told: Told,
+) -> Result<Option<Prefixes>, NoColumns<'w>> {
+    let (Some(spoken), Some(part)) = (spoken, part_of(told)) else {
+        return Ok(None);
+    };
+    match table_file(rt.alloc(), spoken.folder, part, spoken.locale) {
+        Ok(name) => table_there(rt, spoken.folder, name.as_str()),
+        Err(_) => Err(NoColumns::Memory),
+    }
 }
 
 /// The table of prefixes in a file, where one is named.
@@ -239,9 +305,10 @@ fn table_if<'w, R: Files + AllocGlobal>(
     }
 }
 
-/// Loads the table of a column, and puts this at the end of others.
+/// Loads the tables of a column, and puts this at the end of others.
 fn push_loaded<'w, R: Files + AllocGlobal>(
     rt: &R,
+    spoken: Option<Spoken<'_, 'w>>,
     column: Wanted<'w>,
     columns: &mut Vec<LoadedColumn<'w>>,
 ) -> Result<(), NoColumns<'w>>
@@ -254,10 +321,12 @@ fn push_loaded<'w, R: Files + AllocGlobal>(
         file,
     } = column;
     let table = table_if(rt, file)?;
+    let own = own_table(rt, spoken, told)?;
     match columns.push(LoadedColumn {
         heading,
         told,
         table,
+        own,
     }) {
         Ok(()) => Ok(()),
         Err(_) => Err(NoColumns::Memory),
@@ -267,6 +336,7 @@ fn push_loaded<'w, R: Files + AllocGlobal>(
 /// Loads the tables of columns, and puts these at the end of others, in their order.
 fn push_all_loaded<'w, R: Files + AllocGlobal>(
     rt: &R,
+    spoken: Option<Spoken<'_, 'w>>,
     all: &[Wanted<'w>],
     columns: &mut Vec<LoadedColumn<'w>>,
 ) -> Result<(), NoColumns<'w>>
@@ -274,9 +344,45 @@ fn push_all_loaded<'w, R: Files + AllocGlobal>(
         loaded columns.old.items ++ wanted all.now) }
 {
     for column in all {
-        push_loaded(rt, *column, columns)?;
+        push_loaded(rt, spoken, *column, columns)?;
     }
     Ok(())
+}
+
+/// The locale in which columns are told: that of a language that is named, else English. Refused
+/// only for memory.
+fn locale_of(alloc: Global, further: Further<'_>) -> Result<Locale, AllocError>
+    ensures { IfOk result (λ l. l ≡ locale_for further.entry) }
+{
+    match further.language {
+        Some(language) => Locale::of(alloc, language),
+        None => Locale::of(alloc, "en"),
+    }
+}
+
+/// A locale that is named, and the folder of the tables by language, where both are.
+fn spoken_by<'l, 'w>(locale: &'l Locale, further: Further<'w>) -> Option<Spoken<'l, 'w>> {
+    match (further.language, further.places) {
+        (Some(_), Some(folder)) => Some(Spoken { locale, folder }),
+        _ => None,
+    }
+}
+
+/// Loads the tables of columns, in their order.
+fn all_loaded<'w, R: Files + AllocGlobal>(
+    rt: &R,
+    locale: &Locale,
+    further: Further<'w>,
+) -> Result<Vec<LoadedColumn<'w>>, NoColumns<'w>>
+    ensures { IfOk result (λ v. loaded v.items ≡ columns_for further.entry) }
+{
+    let Ok(all) = columns_wanted(rt.alloc(), further) else {
+        return Err(NoColumns::Memory);
+    };
+    let mut columns = Vec::new(rt.alloc());
+    let spoken = spoken_by(locale, further);
+    push_all_loaded(rt, spoken, all.as_slice(), &mut columns)?;
+    Ok(columns)
 }
 
 /// The further columns of a table, loaded.
@@ -284,6 +390,8 @@ fn push_all_loaded<'w, R: Files + AllocGlobal>(
 pub struct Loaded<'w> {
     /// Each, in their order.
     pub columns: Vec<LoadedColumn<'w>>,
+    /// The locale in which they are told.
+    pub locale: Locale,
 }
 
 impl<'w> Loaded<'w> {
@@ -292,19 +400,20 @@ impl<'w> Loaded<'w> {
         rt: &R,
         further: Further<'w>,
     ) -> Result<Loaded<'w>, NoColumns<'w>>
-        ensures { IfOk result (λ l. loaded l.columns.items ≡ columns_for further.entry) }
+        ensures { IfOk result (λ l. spoken l.locale (loaded l.columns.items) ≡
+            told_for further.entry) }
     {
-        let Ok(all) = columns_wanted(rt.alloc(), further) else {
+        let Ok(locale) = locale_of(rt.alloc(), further) else {
             return Err(NoColumns::Memory);
         };
-        let mut columns = Vec::new(rt.alloc());
-        push_all_loaded(rt, all.as_slice(), &mut columns)?;
-        Ok(Loaded { columns })
+        let columns = all_loaded(rt, &locale, further)?;
+        Ok(Loaded { columns, locale })
     }
 
     /// The columns with their tables. Refused only for memory.
     pub fn extra<'s>(&'s self, alloc: Global) -> Result<Vec<Extra<'s>>, AllocError>
-        ensures { IfOk result (λ v. asked v.items ≡ loaded self.now.columns.items) }
+        ensures { IfOk result (λ v. asked v.items ≡
+            spoken self.now.locale (loaded self.now.columns.items)) }
     {
         let mut extra = Vec::new(alloc);
         self.push_extra(&mut extra)?;
@@ -314,18 +423,21 @@ impl<'w> Loaded<'w> {
     /// Puts the columns with their tables at the end of others. Refused only for memory.
     fn push_extra<'s>(&'s self, extra: &mut Vec<Extra<'s>>) -> Result<(), AllocError>
         ensures { OnOk result (asked extra.new.items ≡
-            asked extra.old.items ++ loaded self.now.columns.items) }
+            asked extra.old.items ++ spoken self.now.locale (loaded self.now.columns.items)) }
     {
         for column in self.columns.as_slice() {
             let LoadedColumn {
                 heading,
                 told,
                 table,
+                own,
             } = column;
             extra.push(Extra {
                 heading: *heading,
                 told: *told,
                 table: table.as_ref(),
+                own: own.as_ref(),
+                locale: &self.locale,
             })?;
         }
         Ok(())

@@ -1,6 +1,6 @@
 //! The numbers that stand in running text.
 ghost use Rattle.std.specs.Prelude.{◌≡◌, ◌+◌, ◌≤◌, ◌++◌, ◌∷◌, [], IfOk, IsCharBoundary, List, None};
-ghost use Rattle.std.specs.Prelude.{OnOk, chars, length, option_map, string_bytes, take, ℕ};
+ghost use Rattle.std.specs.Prelude.{OnOk, chars, length, map, option_map, string_bytes, take, ℕ};
 ghost use Rattle.std.specs.List.{AllByRecursion};
 ghost use Rattle.std.specs.Fmt.{decimal};
 ghost use Rattle.std.specs.Option.{option_to_list};
@@ -8,10 +8,16 @@ ghost use Rattle.csv.specs.Records.{fields_of, partial_of};
 ghost use Rattle.phone_csv.specs.Feeds.{counted};
 ghost use Rattle.phone_csv.specs.Formats.{Record, record_text};
 ghost use Rattle.phone_find.specs.Founds.{IsOrdered};
-ghost use Rattle.phone_commands.specs.FoundLines.{AreTold, AreToldIn, HasTerritory};
-ghost use Rattle.phone_commands.specs.FoundLines.{HaveTerritories, IsTold, columns, name_told};
-ghost use Rattle.phone_commands.specs.FoundLines.{records};
+ghost use Rattle.phone_commands.specs.FoundLines.{AreMatched, AreTold, AreToldIn, AreToldOf};
+ghost use Rattle.phone_commands.specs.FoundLines.{HasTerritory, HaveTerritories, IsPlace, IsSpot};
+ghost use Rattle.phone_commands.specs.FoundLines.{IsTold, columns, found_of, name_told, records};
+ghost use Rattle.phone_answers.specs.declared.finds.Spot.{Spot};
+ghost use Rattle.phone_matches_text.specs.Lent.{StandsThere};
 ghost use Rattle.phone_commands.specs.declared.finder.FoundForm.TheVariants as form;
+ghost use Rattle.phone_find.specs.Numbers.{AreNumbers};
+ghost use Rattle.phone_find.specs.declared.leniency.Leniency.TheVariants.{Valid};
+ghost use Rattle.phone_matches.specs.Orders as orders;
+ghost use Rattle.phone_matches_search.specs.Told.{AllMatchThere, told_matches};
 ghost use Rattle.phone_print.specs.Tabbed.{tabbed};
 ghost use Rattle.phone_print.specs.Texts.{e164_text};
 
@@ -21,6 +27,8 @@ use csv::ByteRecord;
 use phone_csv::{Format, LineEnd, add_record};
 use phone_find::{Found, find_numbers};
 use phone_lines::LineTaker;
+use phone_matches::{Leniency, Match, find_matches_by};
+use phone_plans::Plans;
 use phone_table::finds::{Spot, found_object, push_found, push_found_names};
 use phonenumber::{FormatError, PhoneNumber};
 use std::alloc::{AllocError, Global};
@@ -42,11 +50,23 @@ const RECORDS: Format = Format {
     line_end: LineEnd::Feed,
 };
 
-/// The valid numbers that stand in each line.
+/// How libphonenumber's matcher finds numbers.
+#[derive(Clone, Copy)]
+pub struct Matching<'d> {
+    /// How strictly they are judged.
+    pub leniency: Leniency,
+    /// The database of other formats, by which their groups are told.
+    pub alternates: Option<&'d Plans>,
+}
+
+/// The numbers that stand in each line: the valid ones, or those that libphonenumber's matcher
+/// finds.
 #[derive(Drop)]
 pub struct Finder<'d, 'f> {
     /// What reads the numbers.
     pub reader: Reader<'d>,
+    /// How libphonenumber's matcher finds the numbers, where that does.
+    pub matching: Option<Matching<'d>>,
     /// How each is told.
     pub form: FoundForm,
     /// The number of the next line.
@@ -134,6 +154,22 @@ fn column_at(text: &str, from: usize, column: u64, to: usize) -> u64
     ensures { result ≡ counted (length (chars (take to text.now)) + 1) }
 {
     column.saturating_add(count_chars(&text[from..to]) as u64)
+}
+
+/// Where a piece begins that stands behind a front of a text, in bytes, and its column, by that of
+/// a place in the front.
+fn place_behind(text: &str, from: usize, column: u64, front: &str) -> (usize, u64)
+    requires from_border { IsCharBoundary text.now from }
+    requires column { column ≡ counted (length (chars (take from text.now)) + 1) }
+    requires front { (rest : List ℕ) × (text.now ≡ front.now ++ rest) }
+    requires behind { length (chars (take from text.now)) ≤ length (chars front.now) }
+    ensures begins { result.0 ≡ length front.now }
+    ensures border { IsCharBoundary text.now result.0 }
+    ensures column { result.1 ≡ counted (length (chars (take result.0 text.now)) + 1) }
+{
+    let start = front.len();
+    let column = column_at(text, from, column, start);
+    (start, column)
 }
 
 impl<'d, 'f> Finder<'d, 'f> {
@@ -261,15 +297,126 @@ impl<'d, 'f> Finder<'d, 'f> {
         Ok(())
     }
 
-    /// Puts what is told of all numbers that stand in a text at the end of the answers.
-    fn take_text(&self, alloc: Global, text: &str, answers: &mut Vec<u8>) -> Result<(), AllocError>
-        ensures { OnOk result ((told : List ℕ) × AreToldIn self.now.reader.engine.rules
-            self.now.reader.engine.database.now self.now.reader.engine.hint self.now.form
+    /// Puts what is told of one match at the end of the answers, by the column of a place in front
+    /// of it. Gives where it begins, and its column.
+    fn push_match(
+        &self,
+        alloc: Global,
+        text: &str,
+        from: usize,
+        column: u64,
+        found: &Match<'_, PhoneNumber>,
+        answers: &mut Vec<u8>,
+    ) -> Result<(usize, u64), AllocError>
+        requires from_border { IsCharBoundary text.now from }
+        requires column { column ≡ counted (length (chars (take from text.now)) + 1) }
+        requires stand { StandsThere text.now found.now.place }
+        requires behind { length (chars (take from text.now)) ≤
+            length (chars found.now.place.before.now) }
+        requires listed { HasTerritory self.now.reader.engine.database.now found.now.number }
+        ensures place { IfOk result (λ p. IsPlace text.now found.now p.0 p.1) }
+        ensures told { IfOk result (λ _. (spot : Spot) × (one : List ℕ) ×
+            IsSpot self.now.place text.now (found_of found.now) spot ×
+            IsTold self.now.reader.engine.rules self.now.reader.engine.database.now
+            (name_told self.now.names.now self.now.begun) spot found.now.number self.now.form one ×
+            (answers.new.items ≡ answers.old.items ++ one)) }
+    {
+        let (start, column) = place_behind(text, from, column, found.place.before);
+        let spot = Spot {
+            line: self.place,
+            column,
+            piece: found.place.text,
+        };
+        self.push_one(alloc, spot, &found.number, answers)?;
+        Ok((start, column))
+    }
+
+    /// Puts what is told of all matches of a text at the end of the answers.
+    fn push_matches(
+        &self,
+        alloc: Global,
+        text: &str,
+        all: &[Match<'_, PhoneNumber>],
+        answers: &mut Vec<u8>,
+    ) -> Result<(), AllocError>
+        requires stand { AllMatchThere text.now all.now }
+        requires ordered { orders.IsOrdered 0 (told_matches all.now) }
+        requires listed { HaveTerritories self.now.reader.engine.database.now
+            (map found_of all.now) }
+        ensures { OnOk result ((told : List ℕ) × AreTold self.now.reader.engine.rules
+            self.now.reader.engine.database.now self.now.form
+            (name_told self.now.names.now self.now.begun) self.now.place text.now
+            (map found_of all.now) told × (answers.new.items ≡ answers.old.items ++ told)) }
+    {
+        let mut from = 0;
+        let mut column = 1u64;
+        for found in all {
+            let (start, next) = self.push_match(alloc, text, from, column, found, answers)?;
+            from = start;
+            column = next;
+        }
+        Ok(())
+    }
+
+    /// Puts what is told of all valid numbers of a text at the end of the answers.
+    fn take_numbers(
+        &self,
+        alloc: Global,
+        text: &str,
+        answers: &mut Vec<u8>,
+    ) -> Result<(), AllocError>
+        ensures { OnOk result ((told : List ℕ) × AreToldOf (AreNumbers self.now.reader.engine.rules
+            self.now.reader.engine.database.now self.now.reader.engine.hint Valid text.now)
+            self.now.reader.engine.rules self.now.reader.engine.database.now self.now.form
             (name_told self.now.names.now self.now.begun) self.now.place text.now told ×
             (answers.new.items ≡ answers.old.items ++ told)) }
     {
         let all = find_numbers(self.reader.engine, text)?;
         self.push_all(alloc, text, all.as_slice(), answers)
+    }
+
+    /// Puts what is told of all numbers that libphonenumber's matcher finds in a text at the end of
+    /// the answers.
+    fn take_matches(
+        &self,
+        alloc: Global,
+        matching: Matching<'_>,
+        text: &str,
+        answers: &mut Vec<u8>,
+    ) -> Result<(), AllocError>
+        ensures { OnOk result ((told : List ℕ) × AreToldOf (AreMatched
+            self.now.reader.engine.database.now self.now.reader.engine.hint matching.entry text.now)
+            self.now.reader.engine.rules self.now.reader.engine.database.now self.now.form
+            (name_told self.now.names.now self.now.begun) self.now.place text.now told ×
+            (answers.new.items ≡ answers.old.items ++ told)) }
+    {
+        let engine = self.reader.engine;
+        let Matching {
+            leniency,
+            alternates,
+        } = matching;
+        let all = find_matches_by(
+            engine.database,
+            alternates,
+            engine.hint,
+            leniency,
+            u64::MAX,
+            text,
+        )?;
+        self.push_matches(alloc, text, all.as_slice(), answers)
+    }
+
+    /// Puts what is told of all numbers that are found in a text at the end of the answers.
+    fn take_text(&self, alloc: Global, text: &str, answers: &mut Vec<u8>) -> Result<(), AllocError>
+        ensures { OnOk result ((told : List ℕ) × AreToldIn self.now.reader.engine.rules
+            self.now.reader.engine.database.now self.now.reader.engine.hint self.now.matching
+            self.now.form (name_told self.now.names.now self.now.begun) self.now.place text.now
+            told × (answers.new.items ≡ answers.old.items ++ told)) }
+    {
+        match self.matching {
+            Some(matching) => self.take_matches(alloc, matching, text, answers),
+            None => self.take_numbers(alloc, text, answers),
+        }
     }
 }
 
@@ -284,7 +431,7 @@ impl<'d, 'f> LineTaker for Finder<'d, 'f> {
         (after ≡ record f { place = f.first; begun = after_one f.begun }) };
 
     ghost gives = { λ f line answer after. IsFoundLine f.reader.engine.rules
-        f.reader.engine.database.now f.reader.engine.hint f.form
+        f.reader.engine.database.now f.reader.engine.hint f.matching f.form
         (name_told f.names.now f.begun) f.place line answer ×
         (after ≡ record f { place = after_one f.place }) };
 

@@ -23,7 +23,7 @@ pub use columns::{Loaded, LoadedColumn, NoColumns};
 pub use countries::countries_in;
 pub use customers::Customers;
 pub use encoded::Encoded;
-pub use finder::{Finder, FoundForm};
+pub use finder::{Finder, FoundForm, Matching};
 pub use inputs::{Failure, is_standard, on_inputs};
 pub use jobs::{ByLines, Job, JobError, Report};
 pub use phone_lines::LineTaker;

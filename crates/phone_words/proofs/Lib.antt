@@ -1,3 +1,4 @@
 pub mod Fronts
 pub mod Meanings
+pub mod Parted
 pub mod Steps

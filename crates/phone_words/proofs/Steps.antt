@@ -4,11 +4,13 @@ use Rattle.std.proofs.Common.{None, Option, ap, arith, drop, get_or, length, ref
 use Rattle.std.proofs.lemmas.List.{drop_all}
 use Rattle.phone_encodings.specs.declared.encoding.Encoding.{Encoding}
 use Rattle.phone_values.specs.declared.rules.Rules.{Rules}
-use Rattle.phone_words.specs.Calls.{delimiter_of, encoding_of, meaning_in, misfit, rules_of}
-use Rattle.phone_words.specs.Calls.{skipped_of, with_byte, with_count, with_encoding, with_rules}
+use Rattle.phone_words.specs.Calls.{delimiter_of, encoding_of, level_of, meaning_in, misfit, rules_of}
+use Rattle.phone_words.specs.Calls.{skipped_of, with_byte, with_count, with_encoding, with_level}
+use Rattle.phone_words.specs.Calls.{with_rules}
 use Rattle.phone_words.specs.Parts.{Before, Fault, Kind, Said, and_then, before_next, either}
 use Rattle.phone_words.specs.Parts.{kind_after, parts_from, with_kind}
 use Rattle.phone_words.specs.Rows.{Lent, texts_of}
+use Rattle.phone_words.specs.declared.values.Level.{Level}
 
 -- the words from a place on
 pub words_at : (words : List Lent) (n : ℕ) (d : Lent) → n < length words →
@@ -85,3 +87,12 @@ pub encoding_is : (ps : List Said) (rules : Rules) (n b : ℕ) (e : Option Encod
     meaning_in ps ≡ with_byte ps rules n b → encoding_of ps ≡ Ok e →
     meaning_in ps ≡ with_encoding ps rules n b e
 encoding_is ps rules n b e h d = h ∙ ap (λ x. and_then x (with_encoding ps rules n b)) d
+
+pub no_level : (ps : List Said) (rules : Rules) (n b : ℕ) (e : Option Encoding) (f : Fault) →
+    meaning_in ps ≡ with_encoding ps rules n b e → level_of ps ≡ Err f → meaning_in ps ≡ Err f
+no_level ps rules n b e f h d = h ∙ ap (λ x. and_then x (with_level ps rules n b e)) d
+
+pub level_is : (ps : List Said) (rules : Rules) (n b : ℕ) (e : Option Encoding)
+    (l : Option Level) → meaning_in ps ≡ with_encoding ps rules n b e → level_of ps ≡ Ok l →
+    meaning_in ps ≡ with_level ps rules n b e l
+level_is ps rules n b e l h d = h ∙ ap (λ x. and_then x (with_level ps rules n b e)) d

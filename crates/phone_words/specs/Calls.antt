@@ -1,5 +1,5 @@
 -- The call that words are.
-use Rattle.std.specs.Prelude.{◌≡◌, ℕ, Bool, not, ◌||◌, List, [], ◌∷◌, codes, fold}
+use Rattle.std.specs.Prelude.{◌≡◌, ℕ, Bool, not, ◌||◌, ◌&&◌, List, [], ◌∷◌, codes, fold}
 use Rattle.std.specs.Prelude.{Option, Some, None, is_some, option_map, if◌then◌else◌}
 use Rattle.std.specs.Prelude.{Result, Ok, Err}
 use Rattle.std.specs.List.{filter_map, find}
@@ -11,7 +11,8 @@ use Rattle.phone_values.specs.declared.rules.Rules.TheVariants.{Crate, Library}
 use Rattle.phone_words.specs.Parts.{Fault, Said, either, fault, fault_at, operand, option, parts_in}
 use Rattle.phone_words.specs.Parts.{and_then}
 use Rattle.phone_words.specs.Rows.{Entry, Lent, is_empty, text_in, texts_of}
-use Rattle.phone_words.specs.Values.{count_named, delimiter_named, encoding_named, rules_named}
+use Rattle.phone_words.specs.Values.{count_named, delimiter_named, encoding_named, level_named}
+use Rattle.phone_words.specs.Values.{rules_named}
 use Rattle.phone_words.specs.declared.call.Call.{Call}
 use Rattle.phone_words.specs.declared.command.Command.{Command}
 use Rattle.phone_words.specs.declared.command.Command.TheVariants as command
@@ -20,6 +21,7 @@ use Rattle.phone_words.specs.declared.parts.Why.TheVariants as why
 use Rattle.phone_words.specs.declared.parts.WordError.{WordError}
 use Rattle.phone_words.specs.declared.table.Further.{Further}
 use Rattle.phone_words.specs.declared.table.Table.{Table}
+use Rattle.phone_words.specs.declared.values.Level.{Level}
 
 -- the value of the option of this name, after one more part
 abbrev pub with_part : List ℕ → Option (List ℕ) → Said → Option (List ℕ)
@@ -109,7 +111,7 @@ named_or w f other (Some word) = either Ok (f word) (Err (fault_at w word))
 abbrev pub known : List Said → Rules → Result Rules Fault
 known ps Library = Ok Library
 known ps Crate = either (λ name. Err (fault_at why.LibraryAlone name))
-    (find (has ps) (codes "--typed" ∷ codes "--short" ∷ [])) (Ok Crate)
+    (find (has ps) (codes "--typed" ∷ codes "--short" ∷ codes "--leniency" ∷ [])) (Ok Crate)
 
 -- by whose rules numbers are read: by libphonenumber's, unless others are named
 abbrev pub rules_of : List Said → Result Rules Fault
@@ -129,6 +131,26 @@ delimiter_of ps = named_or why.Delimiter delimiter_named 44
 abbrev pub encoding_of : List Said → Result (Option Encoding) Fault
 encoding_of ps = named_or why.Encoding encoding_named None (value ps (codes "--encoding"))
 
+-- a level is named, though no numbers are to be found in a text
+abbrev pub findless : List Said → Option Fault
+findless ps =
+    if is_run ps && (has ps (codes "--leniency") && not (has ps (codes "--find")))
+    then Some record { why = why.Without; word = codes "--leniency"; other = codes "--find" }
+    else None
+
+-- the level of a name, which may be none
+abbrev pub some_level : List ℕ → Option (Option Level)
+some_level name = option_map Some (level_named name)
+
+-- the level that is named, where one is
+abbrev pub level_in : List Said → Result (Option Level) Fault
+level_in ps = named_or why.Leniency some_level None (value ps (codes "--leniency"))
+
+-- the level by which libphonenumber's matcher finds numbers, where one is named; it goes with
+-- `--find`
+abbrev pub level_of : List Said → Result (Option Level) Fault
+level_of ps = either Err (findless ps) (level_in ps)
+
 -- the operand that a part is
 abbrev pub operand_in : Said → Option (List ℕ)
 operand_in (option r v) = None
@@ -139,26 +161,34 @@ abbrev pub operands_in : List Said → List (List ℕ)
 operands_in ps = filter_map operand_in ps
 
 -- what a list of words means: what is asked for, by whose rules, how many lines were left out
--- before, the byte between fields, the encoding of the inputs, and the parts: options with their
--- values, region and files
+-- before, the byte between fields, the encoding of the inputs, the level of libphonenumber's
+-- matcher, and the parts: options with their values, region and files
 pub record Meaning : Type 0 where
   pub command : Command
   pub rules : Rules
   pub skipped : ℕ
   pub delimiter : ℕ
   pub encoding : Option Encoding
+  pub level : Option Level
   pub parts : List Said
 
--- what parts mean with these rules, this count of lines, this byte and this encoding
-abbrev pub with_encoding : List Said → Rules → ℕ → ℕ → Option Encoding → Result Meaning Fault
-with_encoding ps rules skipped delimiter encoding = Ok record {
+-- what parts mean with these rules, this count of lines, this byte, this encoding and this level
+abbrev pub with_level : List Said → Rules → ℕ → ℕ → Option Encoding → Option Level →
+    Result Meaning Fault
+with_level ps rules skipped delimiter encoding level = Ok record {
   command = command_of ps;
   rules = rules;
   skipped = skipped;
   delimiter = delimiter;
   encoding = encoding;
+  level = level;
   parts = ps;
 }
+
+-- what they mean with these rules, this count, this byte and this encoding
+abbrev pub with_encoding : List Said → Rules → ℕ → ℕ → Option Encoding → Result Meaning Fault
+with_encoding ps rules skipped delimiter encoding =
+    and_then (level_of ps) (with_level ps rules skipped delimiter encoding)
 
 -- what they mean with these rules, this count and this byte
 abbrev pub with_byte : List Said → Rules → ℕ → ℕ → Result Meaning Fault
@@ -194,13 +224,15 @@ pub record IsFurther (ps : List Said) (f : Further) : Type 0 where
   pub first_carriers : text_in f.first_carriers ≡
       file_if ps (codes "--first-carrier") (codes "--carriers")
   pub areas : text_in f.areas ≡ file_if ps (codes "--area") (codes "--areas")
+  pub language : text_in f.language ≡ value ps (codes "--language")
+  pub places : text_in f.places ≡ value ps (codes "--places")
   pub extension : f.extension ≡ has ps (codes "--extension")
   pub calling_code : f.calling_code ≡ has ps (codes "--calling-code")
   pub national_number : f.national_number ≡ has ps (codes "--national-number")
   pub suspicion : f.suspicion ≡ has ps (codes "--suspicion")
   pub split : f.split ≡ has ps (codes "--split")
 
--- the files by which further columns tell
+-- the files by which further columns tell, but for those of a language
 abbrev pub further_files : Further → List (Option Lent)
 further_files f = f.prefixes ∷ f.time_zones ∷ f.carriers ∷ f.first_carriers ∷ f.areas ∷ []
 
@@ -224,10 +256,12 @@ pub record Says (m : Meaning) (c : Call) : Type 0 where
   pub skipped : c.skipped ≡ m.skipped
   pub delimiter : c.table.delimiter ≡ m.delimiter
   pub encoding : c.encoding ≡ m.encoding
+  pub level : c.level ≡ m.level
   pub lenient : c.lenient ≡ has m.parts (codes "--lenient")
   pub table : IsTable m.parts c.table
   pub database : text_in c.database ≡ value m.parts (codes "--database")
   pub short_database : text_in c.short_database ≡ value m.parts (codes "--short-database")
+  pub alternates : text_in c.alternates ≡ value m.parts (codes "--alternates")
   pub output : text_in c.output ≡ value m.parts (codes "--output")
   pub operands : texts_of c.operands.items ≡ operands_in m.parts
 

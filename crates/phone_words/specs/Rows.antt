@@ -1,5 +1,5 @@
 -- The options of the program, as the table in `src/rows.rt` has them.
-use Rattle.std.specs.Prelude.{ℕ, ◌==◌, Bool, false, true, not, ◌&&◌, ◌||◌, List, [], ◌∷◌, map}
+use Rattle.std.specs.Prelude.{ℕ, ◌==◌, Bool, false, true, not, ◌&&◌, ◌||◌, List, [], ◌∷◌, ◌++◌, map}
 use Rattle.std.specs.Prelude.{codes}
 use Rattle.std.specs.Prelude.{Option, Some, None, option_map, option_and_then, if◌then◌else◌}
 use Rattle.std.specs.Borrow.{Bor}
@@ -7,7 +7,7 @@ use Rattle.std.specs.List.{find}
 use Rattle.std.specs.Option.{option_or}
 use Rattle.std.specs.Str.{bytes_eq}
 use Rattle.phone_words.specs.declared.rows.Row.{Row}
-use Rattle.phone_words.specs.declared.rows.TheConstants.{ROWS}
+use Rattle.phone_words.specs.declared.rows.TheConstants.{MORE, ROWS}
 
 -- a text that is lent
 abbrev pub Lent : Type 0
@@ -60,9 +60,9 @@ entry_of (name, short, value, beside, needs, excludes, help) = record {
   help = help.now;
 }
 
--- the options of the program: those of the table
-unfoldable pub rows : List Entry
-rows = map (λ c. record {
+-- the first options of the table
+unfoldable pub first_rows : List Entry
+first_rows = map (λ c. record {
   name = c.0.now;
   short = c.1.now;
   value = c.2.now;
@@ -71,6 +71,22 @@ rows = map (λ c. record {
   excludes = map (λ t. t.now) c.5.now;
   help = c.6.now;
 }) ROWS
+
+-- the others
+unfoldable pub more_rows : List Entry
+more_rows = map (λ c. record {
+  name = c.0.now;
+  short = c.1.now;
+  value = c.2.now;
+  beside = c.3.now;
+  needs = map (λ t. t.now) c.4.now;
+  excludes = map (λ t. t.now) c.5.now;
+  help = c.6.now;
+}) MORE
+
+-- the options of the program
+abbrev pub rows : List Entry
+rows = first_rows ++ more_rows
 
 -- an option takes a value
 abbrev pub takes : Entry → Bool

@@ -1,4 +1,4 @@
--- The values that words are: rules, encodings, counts of lines, bytes between fields.
+-- The values that words are: rules, levels, encodings, counts of lines, bytes between fields.
 use Rattle.std.specs.Prelude.{ℕ, ◌&&◌, nat_lt, List, [], ◌∷◌, codes, if◌then◌else◌}
 use Rattle.std.specs.Prelude.{Option, Some, None, option_map}
 use Rattle.std.specs.Str.{bytes_eq, str_eq_ignore_ascii_case}
@@ -9,12 +9,22 @@ use Rattle.phone_encodings.specs.declared.encoding.Order.TheVariants.{LowFirst, 
 use Rattle.phone_values.specs.Numbers.{number_in}
 use Rattle.phone_values.specs.declared.rules.Rules.{Rules}
 use Rattle.phone_values.specs.declared.rules.Rules.TheVariants as rules
+use Rattle.phone_words.specs.declared.values.Level.{Level}
+use Rattle.phone_words.specs.declared.values.Level.TheVariants as level
 
 -- the rules of this name
 abbrev pub rules_named : List ℕ → Option Rules
 rules_named name =
     if bytes_eq name (codes "library") then Some rules.Library else
     if bytes_eq name (codes "crate") then Some rules.Crate else None
+
+-- the level of libphonenumber's matcher of this name
+abbrev pub level_named : List ℕ → Option Level
+level_named name =
+    if bytes_eq name (codes "possible") then Some level.Possible else
+    if bytes_eq name (codes "valid") then Some level.Valid else
+    if bytes_eq name (codes "strict-grouping") then Some level.StrictGrouping else
+    if bytes_eq name (codes "exact-grouping") then Some level.ExactGrouping else None
 
 -- the encoding of this name, in capital or small letters, other than UTF-8
 abbrev pub other_named : List ℕ → Option Encoding

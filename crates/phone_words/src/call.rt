@@ -1,7 +1,8 @@
 //! Words as a call: what is asked for, with what it needs.
-ghost use Rattle.std.specs.Prelude.{◌≡◌, ◌⊎◌, IfErr, IfOk, Err};
+ghost use Rattle.std.specs.Prelude.{◌≡◌, ◌⊎◌, IfErr, IfOk, Err, option_map};
 ghost use Rattle.phone_words.specs.Calls.{IsCall, IsCallIn, IsNoCall, delimiter_of, encoding_of};
-ghost use Rattle.phone_words.specs.Calls.{known, meaning_in, rules_of, skipped_of};
+ghost use Rattle.phone_words.specs.Calls.{findless, known, level_in, level_of, meaning_in};
+ghost use Rattle.phone_words.specs.Calls.{rules_of, skipped_of};
 ghost use Rattle.phone_words.specs.Parts.{all_said, fault, told};
 ghost use Rattle.phone_words.specs.Rows.{texts_of};
 ghost use Rattle.phone_words.specs.declared.parts.Why.TheVariants as why;
@@ -10,7 +11,9 @@ use crate::command::{Command, command_of};
 use crate::options::{has, is_run, misfit, operands_in, value};
 use crate::parts::{Part, Why, WordError, error_at, parts_of};
 use crate::table::{Table, table_of};
-use crate::values::{count_named, delimiter_named, encoding_named, rules_named};
+use crate::values::{
+    Level, count_named, delimiter_named, encoding_named, level_named, rules_named,
+};
 use phone_encodings::Encoding;
 use phone_values::Rules;
 use std::alloc::Global;
@@ -24,6 +27,8 @@ pub struct Call<'w> {
     pub rules: Rules,
     /// The encoding of the inputs, where that isn't UTF-8.
     pub encoding: Option<Encoding>,
+    /// The level by which libphonenumber's matcher finds numbers, where that does.
+    pub level: Option<Level>,
     /// Whether what isn't UTF-8 leaves the status 0.
     pub lenient: bool,
     /// How many lines were left out before those that are read.
@@ -34,6 +39,8 @@ pub struct Call<'w> {
     pub database: Option<&'w str>,
     /// The file of the database of short numbers.
     pub short_database: Option<&'w str>,
+    /// The file of the database of other formats.
+    pub alternates: Option<&'w str>,
     /// The file to write.
     pub output: Option<&'w str>,
     /// The words that are no options, in their order: a region, and files.
@@ -86,16 +93,22 @@ fn call_in<'w>(alloc: Global, parts: &[Part<'w>]) -> Result<Call<'w>, WordError<
         Ok(encoding) => encoding,
         Err(error) => return Err(error),
     };
+    let level = match level_of(parts) {
+        Ok(level) => level,
+        Err(error) => return Err(error),
+    };
     let operands = operands_in(alloc, parts)?;
     Ok(Call {
         command: command_of(parts),
         rules,
         encoding,
+        level,
         lenient: has(parts, "--lenient"),
         skipped,
         table: table_of(parts, delimiter),
         database: value(parts, "--database"),
         short_database: value(parts, "--short-database"),
+        alternates: value(parts, "--alternates"),
         output: value(parts, "--output"),
         operands,
     })
@@ -109,6 +122,7 @@ fn known<'w>(parts: &[Part<'w>], rules: Rules) -> Result<Rules, WordError<'w>>
         Rules::Library => Ok(rules),
         Rules::Crate if has(parts, "--typed") => Err(error_at(Why::LibraryAlone, "--typed")),
         Rules::Crate if has(parts, "--short") => Err(error_at(Why::LibraryAlone, "--short")),
+        Rules::Crate if has(parts, "--leniency") => Err(error_at(Why::LibraryAlone, "--leniency")),
         Rules::Crate => Ok(rules),
     }
 }
@@ -165,5 +179,43 @@ fn encoding_of<'w>(parts: &[Part<'w>]) -> Result<Option<Encoding>, WordError<'w>
     match encoding_named(word) {
         Some(encoding) => Ok(encoding),
         None => Err(error_at(Why::Encoding, word)),
+    }
+}
+
+/// Why a level is named, though no numbers are to be found in a text; none where that isn't so.
+fn findless<'w>(parts: &[Part<'w>]) -> Option<WordError<'w>>
+    ensures { option_map fault result ≡ findless (all_said parts.now) }
+{
+    if is_run(parts) && has(parts, "--leniency") && !has(parts, "--find") {
+        return Some(WordError {
+            why: Why::Without,
+            word: "--leniency",
+            other: "--find",
+        });
+    }
+    None
+}
+
+/// The level that is named, where one is.
+fn level_in<'w>(parts: &[Part<'w>]) -> Result<Option<Level>, WordError<'w>>
+    ensures { told result ≡ level_in (all_said parts.now) }
+{
+    let Some(word) = value(parts, "--leniency") else {
+        return Ok(None);
+    };
+    match level_named(word) {
+        Some(level) => Ok(Some(level)),
+        None => Err(error_at(Why::Leniency, word)),
+    }
+}
+
+/// The level by which libphonenumber's matcher finds numbers, where one is named; it goes with
+/// `--find`.
+fn level_of<'w>(parts: &[Part<'w>]) -> Result<Option<Level>, WordError<'w>>
+    ensures { told result ≡ level_of (all_said parts.now) }
+{
+    match findless(parts) {
+        Some(error) => Err(error),
+        None => level_in(parts),
     }
 }

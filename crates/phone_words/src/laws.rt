@@ -5,12 +5,13 @@ ghost use Rattle.std.specs.Prelude.{nat_le, true};
 ghost use Rattle.std.specs.List.{list_all};
 ghost use Rattle.std.specs.Str.Lines.{lines};
 ghost use Rattle.phone_words.specs.Calls.{IsCall, IsNoCall, Meaning, Says, meaning};
-ghost use Rattle.phone_words.specs.Examples.{command_by, skipped_by, value_by, why_by};
+ghost use Rattle.phone_words.specs.Examples.{command_by, level_by, skipped_by, value_by, why_by};
 ghost use Rattle.phone_words.specs.Help.{help_text};
 ghost use Rattle.phone_words.specs.Parts.{Fault};
 ghost use Rattle.phone_words.specs.declared.call.Call as call;
 ghost use Rattle.phone_words.specs.declared.command.Command.TheVariants as command;
 ghost use Rattle.phone_words.specs.declared.parts.Why.TheVariants as why;
+ghost use Rattle.phone_words.specs.declared.values.Level.TheVariants as level;
 ghost use Rattle.phone_words.specs.declared.parts.WordError as error;
 
 /// A list of words is at most one call: all calls that it is say one meaning.
@@ -52,6 +53,9 @@ pub fn examples()
     ensures unknown { why_by (codes "--nz" ∷ []) ≡ Some why.Unknown }
     ensures no_value { why_by (codes "-o" ∷ codes "--" ∷ []) ≡ Some why.NoValue }
     ensures apart { why_by (codes "--json" ∷ codes "--csv" ∷ codes "x" ∷ []) ≡ Some why.Together }
+    ensures strict { level_by (codes "--find" ∷ codes "--leniency=strict-grouping" ∷ []) ≡
+        Some level.StrictGrouping }
+    ensures findless { why_by (codes "--leniency" ∷ codes "valid" ∷ []) ≡ Some why.Without }
     ensures lacking { why_by (codes "--as" ∷ codes "x" ∷ []) ≡ Some why.Without }
 {}
 

@@ -37,6 +37,8 @@ pub enum Why {
     Rules,
     /// There is no encoding of the word's name.
     Encoding,
+    /// There is no level of the word's name.
+    Leniency,
     /// The word's option knows libphonenumber's rules alone.
     LibraryAlone,
     /// There was no memory for the words.

@@ -2,8 +2,9 @@
 ghost use Rattle.std.specs.Prelude.{◌≡◌, ◌++◌, ◌&&◌, ℕ, List, IfSome, IsNone, map, option_map};
 ghost use Rattle.std.specs.List.{find};
 ghost use Rattle.phone_words.specs.Rows.{after, after_name, after_short, counts, entry};
-ghost use Rattle.phone_words.specs.Rows.{entry_and_text, entry_of, is_among, is_mark, is_name};
-ghost use Rattle.phone_words.specs.Rows.{joined, joined_in, named, text_in, texts_of, value_in};
+ghost use Rattle.phone_words.specs.Rows.{entry_and_text, entry_of, first_rows, is_among, is_mark};
+ghost use Rattle.phone_words.specs.Rows.{is_name, joined, joined_in, more_rows, named, text_in};
+ghost use Rattle.phone_words.specs.Rows.{texts_of, value_in};
 
 /// An option of the program.
 #[derive(Clone, Copy)]
@@ -42,9 +43,9 @@ macro_rules! rows {
     };
 }
 
-/// The options, each by its name, its name of one letter, what its value is, the word beside which
-/// it counts, what it needs, what it doesn't go with, and its help.
-pub(crate) const ROWS: [Cells; 40] = rows! {
+/// The first options, each by its name, its name of one letter, what its value is, the word beside
+/// which it counts, what it needs, what it doesn't go with, and its help.
+const ROWS: [Cells; 21] = rows! {
     "--json" "" "" "" [] ["--unique" "--typed" "--short"] "
       a JSON object a line: the line's number and text, and the fields that --csv gives; with
       --find an object for each number: line, column, text, those fields but the refusal, and
@@ -56,6 +57,10 @@ pub(crate) const ROWS: [Cells; 40] = rows! {
     "--csv" "" "" "--find" [] ["--json"] "
       writes a record for each, under a line of headings: line, column, e164, type, region,
       extension, text; before them the file, where several are named"
+    "--leniency" "" "LEVEL" "" [] [] "
+      with --find, what libphonenumber's own matcher finds at this leniency: possible, by the count
+      of digits; valid; or strict-grouping and exact-grouping, valid and in groups as a format has
+      them"
     "--csv" "" "COLUMN" "" [] ["--json" "--find" "--typed" "--short"] "
       gives a CSV file back, its records as they are and in their order, each with seven fields
       after its own: e164, international, national, type, region, validity, refusal. COLUMN is the
@@ -110,6 +115,13 @@ pub(crate) const ROWS: [Cells; 40] = rows! {
       one of the company that the number was first given to, which is what most people mean"
     "--area" "" "" "" ["--csv" "--areas"] [] "
       one of its area"
+};
+
+/// The other options: a constant of all would be too great for the prover.
+const MORE: [Cells; 23] = rows! {
+    "--language" "" "LANG" "" ["--csv" "--places"] [] "
+      the language of areas and carriers, as de, pt-BR or zh_TW; where it has no text it is told in
+      English, unless it is Chinese, Japanese or Korean"
     "--extension" "" "" "" ["--csv"] [] "
       a column of the number's extension, so before the seven, but by no table; empty where the
       number has none or there is no number"
@@ -134,6 +146,8 @@ pub(crate) const ROWS: [Cells; 40] = rows! {
       that of carriers, so too"
     "--countries" "" "FILE" "" [] [] "
       that of the names of regions, so too"
+    "--places" "" "FOLDER" "" [] [] "
+      the folder of the tables of areas and carriers in other languages"
     "--rules" "" "RULES" "" [] [] "
       library (the default): numbers are read and described as libphonenumber does; crate: as the
       Rust crate phonenumber does, but not with --typed and --short"
@@ -141,6 +155,8 @@ pub(crate) const ROWS: [Cells; 40] = rows! {
       the database, a JSON text, in place of the table of the world"
     "--short-database" "" "FILE" "" [] [] "
       that of short numbers"
+    "--alternates" "" "FILE" "" [] [] "
+      that of other formats of numbers, by which --leniency tells their groups"
     "--output" "-o" "FILE" "" [] [] "
       what is written goes there, once all is and the run has ended with status 0; else what was
       there stays"
@@ -223,12 +239,30 @@ fn named_in(cells: &[Cells], words: &[&str], word: &str) -> Option<Row>
     None
 }
 
+/// The cells of the first options.
+#[tactic(auto, unfolding(crate::specs::Rows::first_rows))]
+pub(crate) fn first_rows() -> &'static [Cells]
+    ensures { map entry_of result.now ≡ first_rows }
+{
+    &ROWS
+}
+
+/// Those of the others.
+#[tactic(auto, unfolding(crate::specs::Rows::more_rows))]
+pub(crate) fn more_rows() -> &'static [Cells]
+    ensures { map entry_of result.now ≡ more_rows }
+{
+    &MORE
+}
+
 /// The option that a word names, among these words.
-#[tactic(auto, unfolding(crate::specs::Rows::rows))]
 pub(crate) fn named(words: &[&str], word: &str) -> Option<Row>
     ensures { option_map entry result ≡ named (texts_of words.now) word.now }
 {
-    named_in(&ROWS, words, word)
+    match named_in(first_rows(), words, word) {
+        Some(row) => Some(row),
+        None => named_in(more_rows(), words, word),
+    }
 }
 
 /// What stands after this front of a word.
@@ -293,21 +327,32 @@ fn joined_in<'w>(cells: &[Cells], word: &'w str) -> Option<(Row, &'w str)>
 }
 
 /// The option and its value that are one word: `--csv=phone`, `-d;`.
-#[tactic(auto, unfolding(crate::specs::Rows::rows))]
 pub(crate) fn joined(word: &str) -> Option<(Row, &str)>
     ensures { option_map entry_and_text result ≡ joined word.now }
 {
-    joined_in(&ROWS, word)
+    match joined_in(first_rows(), word) {
+        Some(found) => Some(found),
+        None => joined_in(more_rows(), word),
+    }
+}
+
+/// What the value of an option of these cells is, in one word; none where there is no such option,
+/// or it takes none.
+fn value_among(cells: &[Cells], name: &str) -> Option<&'static str> {
+    for cells in cells {
+        let row = row_of(*cells);
+        if row.name == name && !row.value.is_empty() {
+            return Some(row.value);
+        }
+    }
+    None
 }
 
 /// What the value of an option is, in one word; empty where there is no such option, or it takes
 /// none.
 pub fn value_word(name: &str) -> &'static str {
-    for cells in &ROWS {
-        let row = row_of(*cells);
-        if row.name == name && !row.value.is_empty() {
-            return row.value;
-        }
+    match value_among(first_rows(), name) {
+        Some(value) => value,
+        None => value_among(more_rows(), name).unwrap_or(""),
     }
-    ""
 }

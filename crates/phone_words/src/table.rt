@@ -50,6 +50,10 @@ pub struct Further<'w> {
     pub first_carriers: Option<&'w str>,
     /// The file of the areas, where they are asked for.
     pub areas: Option<&'w str>,
+    /// The language of areas and carriers, where that isn't English.
+    pub language: Option<&'w str>,
+    /// The folder of the tables of other languages.
+    pub places: Option<&'w str>,
     /// Whether extensions are asked for.
     pub extension: bool,
     /// Whether calling codes are.
@@ -63,7 +67,7 @@ pub struct Further<'w> {
 }
 
 impl<'w> Further<'w> {
-    /// The files by which they tell, those that are there.
+    /// The files by which they tell, those that are there, but for those of a language.
     pub fn files(self) -> [Option<&'w str>; 5]
         ensures { result ≡ further_files self.entry }
     {
@@ -98,6 +102,8 @@ fn further_of<'w>(parts: &[Part<'w>]) -> Further<'w>
         carriers: file_if(parts, "--carrier", "--carriers"),
         first_carriers: file_if(parts, "--first-carrier", "--carriers"),
         areas: file_if(parts, "--area", "--areas"),
+        language: value(parts, "--language"),
+        places: value(parts, "--places"),
         extension: has(parts, "--extension"),
         calling_code: has(parts, "--calling-code"),
         national_number: has(parts, "--national-number"),

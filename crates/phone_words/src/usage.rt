@@ -4,7 +4,7 @@ ghost use Rattle.phone_words.specs.Help.{between, called, company, help_text, li
 ghost use Rattle.phone_words.specs.Help.{row_text, rows_text};
 ghost use Rattle.phone_words.specs.Rows.{entry, entry_of, texts_of};
 
-use crate::rows::{Cells, ROWS, Row, row_of};
+use crate::rows::{Cells, Row, first_rows, more_rows, row_of};
 use std::alloc::{AllocError, Global};
 
 /// What stands in front of the options.
@@ -123,14 +123,15 @@ fn push_rows(text: &mut String, cells: &[Cells]) -> Result<(), AllocError>
     Ok(())
 }
 
-/// What is told of the options of these cells, between what stands in front and after.
-fn help_of(alloc: Global, cells: &[Cells]) -> Result<String, AllocError>
-    ensures { IfOk result (λ s.
-        string_bytes s ≡ FRONT.now ++ (rows_text (map entry_of cells.now) ++ BACK.now)) }
+/// What is told of the options of these cells and of those, between what stands in front and after.
+fn help_of(alloc: Global, cells: &[Cells], more: &[Cells]) -> Result<String, AllocError>
+    ensures { IfOk result (λ s. string_bytes s ≡ FRONT.now ++
+        (rows_text (map entry_of cells.now ++ map entry_of more.now) ++ BACK.now)) }
 {
     let mut text = String::new(alloc);
     text.push_str(FRONT)?;
     push_rows(&mut text, cells)?;
+    push_rows(&mut text, more)?;
     text.push_str(BACK)?;
     Ok(text)
 }
@@ -139,5 +140,5 @@ fn help_of(alloc: Global, cells: &[Cells]) -> Result<String, AllocError>
 pub fn help(alloc: Global) -> Result<String, AllocError>
     ensures { IfOk result (λ s. string_bytes s ≡ help_text) }
 {
-    help_of(alloc, &ROWS)
+    help_of(alloc, first_rows(), more_rows())
 }

@@ -1,7 +1,7 @@
-//! The values that words are: rules, encodings, counts of lines, bytes between fields.
+//! The values that words are: rules, levels, encodings, counts of lines, bytes between fields.
 ghost use Rattle.std.specs.Prelude.{◌≡◌};
 ghost use Rattle.phone_words.specs.Values.{count_named, delimiter_named, encoding_named};
-ghost use Rattle.phone_words.specs.Values.{other_named, rules_named};
+ghost use Rattle.phone_words.specs.Values.{level_named, other_named, rules_named};
 
 use phone_csv::is_delimiter;
 use phone_encodings::{Encoding, Order};
@@ -15,6 +15,32 @@ pub(crate) fn rules_named(name: &str) -> Option<Rules>
     match name {
         "library" => Some(Rules::Library),
         "crate" => Some(Rules::Crate),
+        _ => None,
+    }
+}
+
+/// How strictly libphonenumber's matcher judges the numbers of a text.
+#[derive(Clone, Copy, PartialEq, Eq, Debug)]
+pub enum Level {
+    /// They are possible by the count of their digits.
+    Possible,
+    /// They are valid.
+    Valid,
+    /// They are valid, and their digits stand in groups, one behind the other.
+    StrictGrouping,
+    /// They are valid, and their runs of digits are groups.
+    ExactGrouping,
+}
+
+/// The level of this name.
+pub(crate) fn level_named(name: &str) -> Option<Level>
+    ensures { result ≡ level_named name.now }
+{
+    match name {
+        "possible" => Some(Level::Possible),
+        "valid" => Some(Level::Valid),
+        "strict-grouping" => Some(Level::StrictGrouping),
+        "exact-grouping" => Some(Level::ExactGrouping),
         _ => None,
     }
 }

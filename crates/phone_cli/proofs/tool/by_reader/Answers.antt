@@ -2,7 +2,7 @@ use Rattle.std.proofs.Common.{ap, ◌∙◌}
 use Rattle.std.specs.Prelude.{option_map}
 use Rattle.phone_commands.specs.declared.reader.Reader.{Reader}
 use Rattle.phone_cli.specs.Answers.{is_table}
-use Rattle.phone_cli.proofs.RunLemmas.{finds_by, finds_no_table, found_runs, is_report, lines_ran}
+use Rattle.phone_cli.proofs.RunLemmas.{finds_by, is_report, lines_ran}
 use Rattle.phone_cli.proofs.RunLemmas.{objects_runs, report_runs, typed_runs, with_input_runs}
 use Rattle.phone_cli.proofs.tool.by_reader.Goals as goal
 
@@ -30,16 +30,8 @@ returns-in-Objects g c = λ reads loaded.
 
 pub returns-in-Find : goal.returns-in-Find
 returns-in-Find g c = λ reads loaded.
-    let made = c.finder_of-taker.ensures in
-    let run = c.run_lines-in-Find.ensures in
-    let finds = finds_by _ c.in-Find.is in
-    rw run.5 (lines_ran _ _ _ _ _ run.2 run.0
-    (finds_no_table _ finds) run.4 (found_runs _ _ _
-    c.finder_of-taker.result _ _ run.1 _ finds
-    (ap (λ (r : Reader). r.engine.rules) made.reader ∙ c.reader_of-reader.ensures.rules)
-    (ap (λ (r : Reader). r.engine.hint) made.reader ∙ c.reader_of-reader.ensures.hint)
-    made.form made.first made.place (ap (λ n. n.now) made.names) made.begun
-    run.3))
+    let made = c.reader_of-reader.ensures in
+    c.found.ensures (finds_by _ c.in-Find.is) made.rules made.hint
 
 pub returns-in-Typed : goal.returns-in-Typed
 returns-in-Typed g c = λ reads loaded.

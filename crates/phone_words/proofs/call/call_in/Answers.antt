@@ -1,7 +1,7 @@
 use Rattle.std.proofs.Common.{◌∙◌, ap, inr, option_map, refl, sym}
 use Rattle.phone_words.specs.Parts.{all_said, fault, told}
-use Rattle.phone_words.proofs.Steps.{byte_is, count_is, encoding_is, misfit_is, no_byte, no_count}
-use Rattle.phone_words.proofs.Steps.{no_encoding, no_rules, rules_are}
+use Rattle.phone_words.proofs.Steps.{byte_is, count_is, encoding_is, level_is, misfit_is, no_byte}
+use Rattle.phone_words.proofs.Steps.{no_count, no_encoding, no_level, no_rules, rules_are}
 use Rattle.phone_words.proofs.call.call_in.Goals as goal
 
 pub returns-in-Some-clause-refused : goal.returns-in-Some-clause-refused
@@ -44,6 +44,20 @@ returns-in-Err-encoding_of-clause-refused c =
     inr (no_encoding (all_said c.args.parts.now) c.in-Ok.rules c.in-Ok-skipped_of.count
     c.in-Ok-delimiter_of.byte _ d (sym c.encoding_of.ensures ∙ ap told c.in-Err-encoding_of.is))
 
+pub returns-in-Err-level_of-clause-refused : goal.returns-in-Err-level_of-clause-refused
+returns-in-Err-level_of-clause-refused c =
+    let ps = all_said c.args.parts.now in
+    let m = sym c.misfit.ensures ∙ ap (option_map fault) c.in_default.is in
+    let r = rules_are ps c.in-Ok.rules m (sym c.rules_of.ensures ∙ ap told c.in-Ok.is) in
+    let s = count_is ps c.in-Ok.rules c.in-Ok-skipped_of.count r
+    (sym c.skipped_of.ensures ∙ ap told c.in-Ok-skipped_of.is) in
+    let d = byte_is ps c.in-Ok.rules c.in-Ok-skipped_of.count c.in-Ok-delimiter_of.byte s
+    (sym c.delimiter_of.ensures ∙ ap told c.in-Ok-delimiter_of.is) in
+    let e = encoding_is ps c.in-Ok.rules c.in-Ok-skipped_of.count c.in-Ok-delimiter_of.byte
+    c.in-Ok-encoding_of.encoding d (sym c.encoding_of.ensures ∙ ap told c.in-Ok-encoding_of.is) in
+    inr (no_level ps c.in-Ok.rules c.in-Ok-skipped_of.count c.in-Ok-delimiter_of.byte
+    c.in-Ok-encoding_of.encoding _ e (sym c.level_of.ensures ∙ ap told c.in-Err-level_of.is))
+
 pub returns-clause-call : goal.returns-clause-call
 returns-clause-call c =
     let ps = all_said c.args.parts.now in
@@ -55,20 +69,25 @@ returns-clause-call c =
     (sym c.delimiter_of.ensures ∙ ap told c.in-Ok-delimiter_of.is) in
     let e = encoding_is ps c.in-Ok.rules c.in-Ok-skipped_of.count c.in-Ok-delimiter_of.byte
     c.in-Ok-encoding_of.encoding d (sym c.encoding_of.ensures ∙ ap told c.in-Ok-encoding_of.is) in
+    let l = level_is ps c.in-Ok.rules c.in-Ok-skipped_of.count c.in-Ok-delimiter_of.byte
+    c.in-Ok-encoding_of.encoding c.in-Ok-level_of.level e
+    (sym c.level_of.ensures ∙ ap told c.in-Ok-level_of.is) in
     record {
       meant = _;
-      means = e;
+      means = l;
       says = record {
         command = c.command_of.ensures;
         rules = refl;
         skipped = refl;
         encoding = refl;
+        level = refl;
         lenient = c.has.ensures;
         delimiter = c.table_of.ensures.delimiter;
         table = c.table_of.ensures.table;
         database = c.value.ensures;
         short_database = c.value-2.ensures;
-        output = c.value-3.ensures;
+        alternates = c.value-3.ensures;
+        output = c.value-4.ensures;
         operands = c.in_ok-operands.ensures;
       };
     }

@@ -1,63 +1,71 @@
 use Rattle.std.proofs.Common.{refl}
-use Rattle.phone_words.specs.Rows.{rows}
+use Rattle.phone_words.specs.Rows.{first_rows, more_rows}
 use Rattle.phone_words.proofs.laws.examples.Goals as goal
 
 pub returns-clause-report : goal.returns-clause-report
-unfolding rows
+unfolding first_rows more_rows
 returns-clause-report c = refl
 
 pub returns-clause-output : goal.returns-clause-output
-unfolding rows
+unfolding first_rows more_rows
 returns-clause-output c = refl
 
 pub returns-clause-delimiter : goal.returns-clause-delimiter
-unfolding rows
+unfolding first_rows more_rows
 returns-clause-delimiter c = refl
 
 pub returns-clause-joined : goal.returns-clause-joined
-unfolding rows
+unfolding first_rows more_rows
 returns-clause-joined c = refl
 
 pub returns-clause-table : goal.returns-clause-table
-unfolding rows
+unfolding first_rows more_rows
 returns-clause-table c = refl
 
 pub returns-clause-found : goal.returns-clause-found
-unfolding rows
+unfolding first_rows more_rows
 returns-clause-found c = refl
 
 pub returns-clause-skipped : goal.returns-clause-skipped
-unfolding rows
+unfolding first_rows more_rows
 returns-clause-skipped c = refl
 
 pub returns-clause-later : goal.returns-clause-later
-unfolding rows
+unfolding first_rows more_rows
 returns-clause-later c = refl
 
 pub returns-clause-help : goal.returns-clause-help
-unfolding rows
+unfolding first_rows more_rows
 returns-clause-help c = refl
 
 pub returns-clause-marked : goal.returns-clause-marked
-unfolding rows
+unfolding first_rows more_rows
 returns-clause-marked c = refl
 
 pub returns-clause-typed : goal.returns-clause-typed
-unfolding rows
+unfolding first_rows more_rows
 returns-clause-typed c = refl
 
 pub returns-clause-unknown : goal.returns-clause-unknown
-unfolding rows
+unfolding first_rows more_rows
 returns-clause-unknown c = refl
 
 pub returns-clause-no_value : goal.returns-clause-no_value
-unfolding rows
+unfolding first_rows more_rows
 returns-clause-no_value c = refl
 
 pub returns-clause-apart : goal.returns-clause-apart
-unfolding rows
+unfolding first_rows more_rows
 returns-clause-apart c = refl
 
 pub returns-clause-lacking : goal.returns-clause-lacking
-unfolding rows
+unfolding first_rows more_rows
 returns-clause-lacking c = refl
+
+pub returns-clause-strict : goal.returns-clause-strict
+unfolding first_rows more_rows
+returns-clause-strict c = refl
+
+pub returns-clause-findless : goal.returns-clause-findless
+unfolding first_rows more_rows
+returns-clause-findless c = refl

@@ -1,5 +1,5 @@
 use Rattle.phone_commands.proofs.FoundLemmas.{found-territories, numbers-ordered}
-use Rattle.phone_commands.proofs.finder.Finder.take_text.Goals as goal
+use Rattle.phone_commands.proofs.finder.Finder.take_numbers.Goals as goal
 
 pub push_all-requires-clause-ordered : goal.push_all-requires-clause-ordered
 push_all-requires-clause-ordered c = rw c.as_slice.ensures.value
