@@ -1,6 +1,6 @@
-/* What the SQL functions of SQLite and PostgreSQL share: how a question about a text is answered. A text
- * is read and a number described by libphonenumber's rules. The file that includes this one defines first
- * what sql_table.h asks for. */
+/* What the SQL functions of SQLite, PostgreSQL and DuckDB share: how a question about a text is answered. A
+ * text is read and a number described by libphonenumber's rules. The file that includes this one defines
+ * first what sql_table.h asks for, and SQL_QUESTIONS_ALONE where it finds numbers in texts by itself. */
 #ifndef SQL_COMMON_H
 #define SQL_COMMON_H
 #include "sql_table.h"
@@ -232,6 +232,7 @@ static void sql_ask(phone_handle *world, const sql_call *call, sql_answer *answe
 }
 static void sql_end(sql_answer *answer) { sql_forget(answer->bytes.many); }
 
+#ifndef SQL_QUESTIONS_ALONE
 /* Where the valid numbers of a call's text stand, in bytes: so many places, which sql_forget gives back. */
 static phone_status sql_places(phone_handle *world, const sql_call *call, phone_place **places, size_t *count) {
     const uint8_t *text = phone_text(call->text.at, call->text.len);
@@ -278,4 +279,5 @@ static void sql_part(phone_handle *world, int part, phone_status status, const p
     }
     sql_tell(world, &call, status, number, texts, texts_len, answer);
 }
+#endif
 #endif

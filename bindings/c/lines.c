@@ -39,7 +39,7 @@ int main(int argc, char **argv) {
             if (phone_report(&world, at, hint, tab + 1, (size_t)(end - tab - 1), out, sizeof out, &wrote) != PHONE_OK) return 3;
             if (!round) fwrite(out, 1, wrote, stdout), putchar('\n'), lines++;
         }
-        if (!round) fprintf(stderr, "C: load %.0f ms\n", start / 1e6);
+        if (!round) fprintf(stderr, "C: load %.1f ms\n", start / 1e6);
     }
     if (rounds) fprintf(stderr, "C: %.0f ns a line\n", (now() - start) / (double)rounds / (double)lines);
     phone_close(&world);

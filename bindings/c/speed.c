@@ -1,8 +1,10 @@
 /* Columns of lines beside the calls for one text: speed TABLE LINES [THREADS [STRETCH [ANSWERS]]]. LINES has a region, `-` for none, a tab
- * and a text on each line. Where ANSWERS, of tools/million-lines, are named, columns of all lines are compared with them first. Stretches of rows are asked in turn by phone_columns and by the calls for one text, by one thread, whose processor
- * time is told: the middle of each, and the middle of their ratio, of all columns and of E.164 alone. Then all rows are asked by THREADS
- * threads on one table, and by as many processes with a table each, in turn, five times: the clock's middle of each. Each answer of
- * phone_columns is compared with that of the calls. The last line is `speed: ok`. */
+ * and a text on each line. Where ANSWERS, of tools/million-lines, are named, columns of all lines are compared with them first.
+ * Stretches of rows are asked in turn by phone_columns and by the calls for one text, by one thread, whose processor time is told: the
+ * middle of each, and the middle of their ratio, of all columns and of E.164 alone. A stretch is asked once before, so that it stands in
+ * the processor's cache. Then all rows are asked by one thread, five times, as an engine asks them: the middle of columns of what a report
+ * tells, and of E.164 alone, and of the calls. Then by THREADS threads on one table, and by as many processes with a table each, in turn,
+ * five times: the clock's middle of each. Each answer of phone_columns is compared with that of the calls. The last line is `speed: ok`. */
 #define _POSIX_C_SOURCE 200809L
 #include "phone.h"
 #include <pthread.h>
@@ -65,6 +67,11 @@ static void lay_out(const char *path) {
 }
 
 static const uint32_t ALL[COLUMNS] = {0, 1, 2, 3, 4, 5, 6, 7, 8, 9, 10, 11, 12};
+/* What the other engines are asked, see bindings/python/engines.py. */
+static const uint32_t TOLD[] = {PHONE_COLUMN_E164, PHONE_COLUMN_INTERNATIONAL, PHONE_COLUMN_NATIONAL, PHONE_COLUMN_RFC3966,
+                                PHONE_COLUMN_KIND, PHONE_COLUMN_REGION, PHONE_COLUMN_VALIDITY, PHONE_COLUMN_IS_NUMBER};
+enum { REPORTED = sizeof TOLD / sizeof *TOLD };
+static const uint32_t E164[] = {PHONE_COLUMN_E164};
 /* The columns of rows, from one on; how many bytes they take. */
 static size_t by_column(phone_handle *world, const uint32_t *columns, size_t count, size_t from, size_t n, phone_place *places, uint8_t *out, size_t room) {
     phone_texts own = phone_texts_of(offsets + from, n, bytes, NULL, 0), with = phone_texts_of(hint_offsets + from, n, hint_bytes, NULL, 0);
@@ -147,16 +154,31 @@ static void in_turn(phone_handle *world, const char *what, const uint32_t *colum
     free(column), free(calls), free(ratio), free(out);
 }
 
-typedef struct { phone_handle world; long part; } share;
-static void *works(void *it) {
-    share *mine = it;
+/* These columns of rows from one on, up to another, stretch by stretch. */
+static void ask_columns(phone_handle *world, const uint32_t *columns, size_t count, size_t from, size_t end) {
     size_t room = 400 * stretch + 1024;
     uint8_t *out = memory(room);
     phone_place places[2 * COLUMNS] = {{0, 0}};
-    size_t end = rows * (size_t)(mine->part + 1) / (size_t)threads;
-    for (size_t from = rows * (size_t)mine->part / (size_t)threads; from < end; from += stretch)
-        by_column(&mine->world, ALL, COLUMNS, from, end - from < stretch ? end - from : stretch, places, out, room);
+    for (; from < end; from += stretch) by_column(world, columns, count, from, end - from < stretch ? end - from : stretch, places, out, room);
     free(out);
+}
+static void whole(phone_handle *world, const char *what, const uint32_t *columns, size_t count, uint32_t modes) {
+    double column[TURNS], calls[TURNS];
+    for (int turn = 0; turn < TURNS; turn++) {
+        double start = now(CLOCK_THREAD_CPUTIME_ID);
+        ask_columns(world, columns, count, 0, rows);
+        double then = now(CLOCK_THREAD_CPUTIME_ID);
+        by_calls(world, 0, rows, modes, NULL, NULL);
+        column[turn] = then - start, calls[turn] = now(CLOCK_THREAD_CPUTIME_ID) - then;
+    }
+    printf("%s of all rows: column %.0f ns a row, calls %.0f ns\n", what, middle(column, TURNS) / (double)rows, middle(calls, TURNS) / (double)rows);
+}
+
+typedef struct { phone_handle world; long part; } share;
+static void *works(void *it) {
+    share *mine = it;
+    size_t part = (size_t)mine->part;
+    ask_columns(&mine->world, TOLD, REPORTED, rows * part / (size_t)threads, rows * (part + 1) / (size_t)threads);
     phone_close(&mine->world);
     return NULL;
 }
@@ -198,7 +220,6 @@ static double by_processes(void) {
 }
 
 int main(int count, char **words) {
-    static const uint32_t E164[] = {PHONE_COLUMN_E164};
     phone_handle world = PHONE_CLOSED;
     if (count < 3) return puts("speed TABLE LINES [THREADS [STRETCH [ANSWERS]]]"), 2;
     table = read_all(words[1], &table_len);
@@ -209,6 +230,8 @@ int main(int count, char **words) {
     if (count > 5) compare(&world, words[5]);
     in_turn(&world, "all", ALL, COLUMNS, MODES);
     in_turn(&world, "E.164", E164, 1, 1);
+    whole(&world, "all", TOLD, REPORTED, MODES);
+    whole(&world, "E.164", E164, 1, 1);
     double inside[TURNS], beside[TURNS], ratio[TURNS];
     for (int turn = 0; turn < TURNS && threads > 0; turn++) {
         inside[turn] = by_threads(&world), beside[turn] = by_processes(), ratio[turn] = inside[turn] / beside[turn];

@@ -91,6 +91,12 @@ int main(int argc, char **argv) {
     std::vector<phone_place> found = phones.find(text, "NZ").value();
     must(found.size() == 2 && text.substr(found[0].start, found[0].end - found[0].start) == "03-331 6005", "numbers in a text");
     must(phones.typing_shown("033316", "NZ").value() == "03 331 6", "while it is typed: " + phones.typing_shown("033316", "NZ").value());
+    found = phones.matches(text, "NZ", leniency::exact_grouping).value();
+    must(found.size() == 2 && found[1].end == text.size(), "as libphonenumber finds them");
+    must(phones.matches("+64 3331 6005", "", leniency::exact_grouping).value().empty(), "other groups of digits");
+    world alternates = world::open("[{\"id\": \"001\", \"country_code\": 64, \"general\": {\"national_number\": \"[0-9]+\"}, \"formats\": "
+                                   "[{\"pattern\": \"([0-9]{4})([0-9]{4})\", \"format\": \"$1 $2\"}]}]").value();
+    must(phones.matches(alternates, "+64 3331 6005", "", leniency::exact_grouping).value().size() == 1, "an alternate format");
     must(phones.regions().value().size() == 245, "regions");
     must(phones.calling_codes().value().size() > 200, "calling codes");
     must(is_viable("03-331 6005").value() && !is_viable("x").value(), "viable");

@@ -79,8 +79,13 @@ enum class match : std::uint32_t {
     different = PHONE_MATCH_DIFFERENT
 };
 
-/* What is found in a text. */
-enum class leniency : std::uint32_t { possible = PHONE_IF_POSSIBLE, valid = PHONE_IF_VALID };
+/* What is found in a text: by `matches` alone also what has the groups of digits of a format. */
+enum class leniency : std::uint32_t {
+    possible = PHONE_IF_POSSIBLE,
+    valid = PHONE_IF_VALID,
+    strict_grouping = PHONE_IF_STRICT_GROUPING,
+    exact_grouping = PHONE_IF_EXACT_GROUPING
+};
 
 /* The words of a status. */
 inline std::string words(phone_status status) {
@@ -319,6 +324,24 @@ public:
         return inside::items_of<phone_place>([&](phone_place *out, std::size_t room, std::size_t *wrote) {
             return phone_find(&handle_, inside::bytes(region), region.size(), static_cast<std::uint32_t>(which),
                               inside::bytes(text), text.size(), out, room, wrote);
+        });
+    }
+    /* Where numbers stand in a text as libphonenumber finds them, in bytes; `tries` is how many candidates and
+     * pieces without a number are looked at. */
+    result<std::vector<phone_place>> matches(std::string_view text, std::string_view region = {},
+                                             leniency which = leniency::valid, std::uint64_t tries = 65535) {
+        return inside::items_of<phone_place>([&](phone_place *out, std::size_t room, std::size_t *wrote) {
+            return phone_matches(&handle_, inside::bytes(region), region.size(), static_cast<std::uint32_t>(which),
+                                 tries, inside::bytes(text), text.size(), out, room, wrote);
+        });
+    }
+    /* The same by alternate formats too, which are open in another world (data/alternates.json). */
+    result<std::vector<phone_place>> matches(world &alternates, std::string_view text, std::string_view region = {},
+                                             leniency which = leniency::valid, std::uint64_t tries = 65535) {
+        return inside::items_of<phone_place>([&](phone_place *out, std::size_t room, std::size_t *wrote) {
+            return phone_matches_by(&handle_, &alternates.handle_, inside::bytes(region), region.size(),
+                                    static_cast<std::uint32_t>(which), tries, inside::bytes(text), text.size(), out,
+                                    room, wrote);
         });
     }
     /* What is shown of a number while it is typed, of all keys so far. */

@@ -1,7 +1,7 @@
 /* The extension for DuckDB: README.md says what its functions answer. A process has one table, which the
  * first call opens. DuckDB calls a function from all of its threads, with the rows of a chunk each: a call
  * takes a worker, which has a handle of its own on the table, and puts it back, so that none waits for
- * another's. The rows of a chunk are answered by one call of phone_columns. */
+ * another's. The rows of a chunk are answered by one call of phone_columns, further questions row by row. */
 #define DUCKDB_EXTENSION_NAME phonenumber
 #include "duckdb_extension.h"
 #include <pthread.h>
@@ -10,7 +10,8 @@
 
 #define sql_memory(size) calloc(1, (size) ? (size) : 1)
 #define sql_forget(at) free(at)
-#include "sql_table.h"
+#define SQL_QUESTIONS_ALONE
+#include "sql_common.h"
 
 DUCKDB_EXTENSION_EXTERN
 
@@ -212,8 +213,12 @@ static void put_mode(const answers *of, uint32_t mode, idx_t row, duckdb_vector 
     put_text(out, to, of->texts[mode] + offsets[row], offsets[row + 1] - offsets[row]);
 }
 
-/* What is told of a number: its name in the struct, its type, and the column that tells it. */
-typedef enum { E164, INTERNATIONAL, NATIONAL, RFC3966, CODE, TYPE, REGION, IS_VALID, REFUSAL, FIELDS } field;
+/* What is told of a number: its name in the struct, its type, and the column that tells it. Behind FIELDS
+ * stand further questions. */
+typedef enum {
+    E164, INTERNATIONAL, NATIONAL, RFC3966, CODE, TYPE, REGION, IS_VALID, REFUSAL, FIELDS, NATIONAL_NUMBER, POSSIBILITY,
+    IS_VALID_FOR, AREA_LENGTH, MATCH
+} field;
 static const struct { const char *name; duckdb_type type; uint32_t column; } FIELD[FIELDS] = {
     {"e164", DUCKDB_TYPE_VARCHAR, PHONE_COLUMN_E164},
     {"international", DUCKDB_TYPE_VARCHAR, PHONE_COLUMN_INTERNATIONAL},
@@ -326,6 +331,50 @@ static phone_status format(worker *mine, field which, duckdb_data_chunk chunk, d
     for (idx_t row = 0; status == PHONE_OK && row < rows; row++)
         if (is_set(mine->has, row)) put_formatted(which, &of, modes[row], out, row);
         else put_null(out, row);
+    return status;
+}
+
+/* The further questions, and the type of what each is answered. */
+static const struct { sql_question question; duckdb_type type; } FURTHER[] = {
+    [NATIONAL_NUMBER] = {SQL_NATIONAL, DUCKDB_TYPE_VARCHAR},
+    [POSSIBILITY] = {SQL_POSSIBILITY, DUCKDB_TYPE_VARCHAR},
+    [IS_VALID_FOR] = {SQL_IS_VALID_FOR, DUCKDB_TYPE_BOOLEAN},
+    [AREA_LENGTH] = {SQL_AREA_LENGTH, DUCKDB_TYPE_INTEGER},
+    [MATCH] = {SQL_MATCH, DUCKDB_TYPE_VARCHAR}};
+
+/* Puts an answer to a row of a vector. */
+static phone_status put_answer(const sql_answer *answer, duckdb_vector out, idx_t row) {
+    switch (answer->kind) {
+    case SQL_TEXT: put_text(out, row, answer->text.at, answer->text.len); break;
+    case SQL_TRUTH: ((bool *)duckdb_vector_get_data(out))[row] = answer->truth != 0; break;
+    case SQL_NUMBER: ((int32_t *)duckdb_vector_get_data(out))[row] = answer->number; break;
+    case SQL_NOTHING: put_null(out, row); break;
+    case SQL_NO_MEMORY: return PHONE_MEMORY;
+    }
+    return PHONE_OK;
+}
+
+/* A further question of each row: of a text under its region; of that and the id of a region; of two texts. */
+static phone_status ask(worker *mine, field which, duckdb_data_chunk chunk, duckdb_vector out) {
+    duckdb_string_t *strings[3] = {NULL};
+    phone_status status = PHONE_OK;
+    idx_t rows = duckdb_data_chunk_get_size(chunk), count = duckdb_data_chunk_get_column_count(chunk);
+    for (idx_t i = 0; i < count; i++)
+        strings[i] = duckdb_vector_get_data(duckdb_data_chunk_get_vector(chunk, i));
+    for (idx_t row = 0; row < rows && status == PHONE_OK; row++) {
+        sql_call asked = {FURTHER[which].question, {NULL, 0}, {NULL, 0}, {NULL, 0}};
+        sql_answer answer;
+        if (!is_set(mine->has, row)) {
+            put_null(out, row);
+            continue;
+        }
+        asked.text = text_of(&strings[0][row]);
+        asked.region = text_of(&strings[1][row]);
+        if (count > 2) asked.mode = text_of(&strings[2][row]);
+        sql_ask(&mine->handle, &asked, &answer);
+        status = put_answer(&answer, out, row);
+        sql_end(&answer);
+    }
     return status;
 }
 
@@ -477,6 +526,12 @@ static const function FUNCTIONS[] = {
     {"phone_region", 2, REGION, tell},   {"phone_is_valid", 2, IS_VALID, tell},
     {"phone_refusal", 2, REFUSAL, tell}, {"phone_refusal", 3, REFUSAL, format},
     {"phone_format", 3, E164, format},   {"phone", 2, FIELDS, tell_all},
+    {"phone_calling_code", 2, CODE, tell},
+    {"phone_national_number", 2, NATIONAL_NUMBER, ask},
+    {"phone_possibility", 2, POSSIBILITY, ask},
+    {"phone_is_valid_for", 3, IS_VALID_FOR, ask},
+    {"phone_area_length", 2, AREA_LENGTH, ask},
+    {"phone_match", 2, MATCH, ask},
     {"phone_find", 2, FIELDS, find_all}, {"phone_find", 3, FIELDS, find_all},
     {"phone_table_version", 0, FIELDS, tell_version}};
 
@@ -605,6 +660,7 @@ static duckdb_logical_type type_of(const function *it) {
     duckdb_type types[FIELDS];
     duckdb_logical_type found, list;
     if (it->answer == tell) return duckdb_create_logical_type(FIELD[it->which].type);
+    if (it->answer == ask) return duckdb_create_logical_type(FURTHER[it->which].type);
     if (it->answer == format || it->answer == tell_version) return duckdb_create_logical_type(DUCKDB_TYPE_VARCHAR);
     for (int i = 0; i < FIELDS; i++) names[i] = FIELD[i].name, types[i] = FIELD[i].type;
     if (it->answer == tell_all) return struct_of(names, types, FIELDS);

@@ -3,8 +3,9 @@
 usage: lower.py FROM TO
 
 Each place is cut to 32 bits before memory is read or written there, as are lengths of runs; the size of memory, and what growing it answers,
-are made 64 bits wide. All else of the module, also its calls' arguments, stays. The module must be one that has no more than 4 GB, imports
-nothing, and stands in one memory, as build makes it. The instructions are those of WebAssembly 2.0, with the tail calls; another one ends this.
+are made 64 bits wide. What is exported takes and gives 32 bits in place of 64, which are numbers in JavaScript and no BigInts: a function of
+its own calls the exported one. All else of the module stays. The module must be one that has no more than 4 GB, imports nothing, and stands in
+one memory, as build makes it. The instructions are those of WebAssembly 2.0, with the tail calls; another one ends this.
 """
 import sys
 
@@ -163,18 +164,70 @@ class Body:
         return leb(len(body)) + body
 
 
-def parameters(data, at):
-    """How many parameters each type of the module has."""
+def kinds_of(data, at):
+    """What the functions of each type of the module take, and what they give."""
     count, at = number(data, at)
     found = []
     for _ in range(count):
         if data[at] != 0x60:
             stop("a type that is no function's")
         some, at = number(data, at + 1)
-        found.append(some)
-        results, at = number(data, at + some)
-        at += results
+        results, behind = number(data, at + some)
+        found.append((data[at : at + some], data[behind : behind + results]))
+        at = behind + results
     return found
+
+
+def narrow(kinds):
+    """The same with 32 bits in place of 64."""
+    return bytes(I32 if it == I64 else it for it in kinds)
+
+
+def caller(which, takes, gives):
+    """The body of a function that takes and gives 32 bits where the one that it calls has 64."""
+    body = bytearray(b"\0")
+    for i, kind in enumerate(takes):
+        body += b"\x20" + leb(i) + bytes([EXTEND_U]) * (kind == I64)
+    body += b"\x10" + leb(which) + bytes([WRAP]) * (gives == bytes([I64])) + b"\x0b"
+    return leb(len(body)) + body
+
+
+class Callers:
+    """What is exported, each by a function of its own, where 64 bits are taken or given."""
+
+    def __init__(self, kinds, types):
+        self.kinds, self.types, self.more, self.bodies = kinds, types, [], []
+
+    def export(self, which):
+        """The function that is exported in the place of one."""
+        takes, gives = self.kinds[self.types[which]]
+        if I64 not in takes + gives:
+            return which
+        own = narrow(takes), narrow(gives)
+        if len(gives) > 1:
+            stop("an export that gives more than one value")
+        if own not in self.kinds:
+            self.kinds.append(own)
+        self.more.append(self.kinds.index(own))
+        self.bodies.append(caller(which, takes, gives))
+        return len(self.types) + len(self.more) - 1
+
+
+def exports(data, at, callers):
+    """What is exported."""
+    count, at = number(data, at)
+    out = bytearray(leb(count))
+    for _ in range(count):
+        size, first = number(data, at)
+        kind = data[first + size]
+        which, behind = number(data, first + size + 1)
+        out += data[at : first + size + 1] + leb(callers.export(which) if kind == 0 else which)
+        at = behind
+    return bytes(out)
+
+
+def vector(parts):
+    return leb(len(parts)) + b"".join(parts)
 
 
 def limits(data, at):
@@ -211,40 +264,59 @@ def segments(data, at):
     return bytes(out)
 
 
+def sections(data):
+    """The sections of a module: the number of each, and the places where it begins and ends."""
+    at = 8
+    while at < len(data):
+        size, first = number(data, at + 1)
+        yield data[at], first, first + size
+        at = first + size
+
+
+def types_of(data, at):
+    """The type of each function."""
+    count, at = number(data, at)
+    types = []
+    for _ in range(count):
+        kind, at = number(data, at)
+        types.append(kind)
+    return types
+
+
+def bodies_of(data, at, kinds, types):
+    """The bodies of the functions."""
+    count, at = number(data, at)
+    for i in range(count):
+        length, at = number(data, at)
+        yield Body(data, at, at + length, len(kinds[types[i]][0])).whole()
+        at += length
+
+
 def lowered(data):
     """The module with a memory of 32 bits."""
-    out, at, kinds, types = bytearray(data[:8]), 8, [], []
-    while at < len(data):
-        section = data[at]
-        size, first = number(data, at + 1)
-        end = first + size
-        body = data[first:end]
+    first = {section: at for section, at, _ in sections(data)}
+    kinds, types = kinds_of(data, first[1]), types_of(data, first[3])
+    callers = Callers(kinds, types)
+    named, out = exports(data, first[7], callers), bytearray(data[:8])
+    for section, at, end in sections(data):
+        body = data[at:end]
         if section == 1:
-            kinds = parameters(data, first)
+            body = vector([b"\x60" + vector([bytes([it]) for it in takes]) + vector([bytes([it]) for it in gives]) for takes, gives in kinds])
         elif section == 2 and body != b"\0":
             stop("the module imports something")
         elif section == 3:
-            count, place = number(data, first)
-            for _ in range(count):
-                kind, place = number(data, place)
-                types.append(kind)
+            body = vector([leb(it) for it in types + callers.more])
         elif section == 5:
-            count, place = number(data, first)
-            if count != 1:
+            if number(data, at)[0] != 1:
                 stop("not one memory")
-            body = leb(1) + limits(data, place)[0]
+            body = leb(1) + limits(data, number(data, at)[1])[0]
+        elif section == 7:
+            body = named
         elif section == 10:
-            count, place = number(data, first)
-            bodies = bytearray(leb(count))
-            for i in range(count):
-                length, place = number(data, place)
-                bodies += Body(data, place, place + length, kinds[types[i]]).whole()
-                place += length
-            body = bytes(bodies)
+            body = vector([*bodies_of(data, at, kinds, types), *callers.bodies])
         elif section == 11:
-            body = segments(data, first)
+            body = segments(data, at)
         out += bytes([section]) + leb(len(body)) + body
-        at = end
     return bytes(out)
 
 

@@ -1,5 +1,5 @@
 // The rows of crates/replay/data on libphonenumber's further questions, on matches and on places, asked of the module's calls themselves, of
-// which the package names only some: node questions.mjs PACKAGE DATA TABLES. TABLES is the folder of short.json and sms.json. A row that
+// which the package names only some: node questions.mjs PACKAGE DATA TABLES. TABLES is the folder of short.json, sms.json and alternates.json. A row that
 // differs is printed; the last line is `questions: ok` with the count of rows.
 import { readFileSync } from "node:fs";
 
@@ -12,7 +12,7 @@ const { exports: calls } = await WebAssembly.instantiate(await WebAssembly.compi
 const encoder = new TextEncoder(), decoder = new TextDecoder("utf-8", { fatal: true });
 
 // What a row lays into memory stands in one block, which the next row takes again.
-const ROOM = 1 << 22, LONG = 1 << 14, first = Number(calls.phone_memory(BigInt(ROOM)));
+const ROOM = 1 << 22, LONG = 1 << 14, first = calls.phone_memory(ROOM) >>> 0;
 let next = first;
 const bytes = () => new Uint8Array(calls.memory.buffer), view = () => new DataView(calls.memory.buffer);
 /** A place for so many bytes, all of them 0. */
@@ -21,13 +21,13 @@ function room(size) {
   next = (at + size + 15) & ~15;
   if (next > first + ROOM) throw new RangeError("a row is too long");
   bytes().fill(0, at, next);
-  return BigInt(at);
+  return at;
 }
 /** A text's place and length. */
 function text(it) {
   const own = typeof it === "string" ? encoder.encode(it) : it, at = room(own.length + 1);
-  bytes().set(own, Number(at));
-  return [at, BigInt(own.length)];
+  bytes().set(own, at);
+  return [at, own.length];
 }
 class Refusal extends Error {
   constructor(status) {
@@ -36,18 +36,18 @@ class Refusal extends Error {
   }
 }
 const must = (status) => { if (status) throw new Refusal(status); };
-const byteAt = (at, place) => view().getUint8(Number(at) + place);
-const lengthAt = (at) => Number(view().getBigUint64(Number(at), true));
+const byteAt = (at, place) => view().getUint8(at + place);
+const lengthAt = (at) => view().getUint32(at, true);
 
 /** What a call writes to the front of a buffer: its place, and how many bytes, or values of another width. */
 function wrote(name, width, ...words) {
   const out = room(LONG * width), length = room(8);
-  must(calls[name](...words, out, BigInt(LONG), length));
+  must(calls[name](...words, out, LONG, length));
   return [out, lengthAt(length)];
 }
 function written(name, ...words) {
   const [at, length] = wrote(name, 1, ...words);
-  return decoder.decode(bytes().subarray(Number(at), Number(at) + length));
+  return decoder.decode(bytes().subarray(at, at + length));
 }
 /** What a call tells in a cell. */
 function told(name, size, ...words) {
@@ -56,7 +56,7 @@ function told(name, size, ...words) {
   return cell;
 }
 const flag = (name, ...words) => (byteAt(told(name, 1, ...words), 0) ? "yes" : "no");
-const count = (name, ...words) => view().getUint32(Number(told(name, 4, ...words)), true);
+const count = (name, ...words) => view().getUint32(told(name, 4, ...words), true);
 /** What a call answers, and another answer where it refuses by one of these statuses. */
 function or(other, statuses, call) {
   try {
@@ -69,42 +69,42 @@ function or(other, statuses, call) {
 
 /** A handle that stays open, on a database. */
 function opened(table) {
-  const handle = calls.phone_memory(16n), at = calls.phone_memory(BigInt(table.length));
-  bytes().fill(0, Number(handle), Number(handle) + 16);
-  bytes().set(table, Number(at));
-  must(calls.phone_open(at, BigInt(table.length), 0, handle));
+  const handle = calls.phone_memory(16) >>> 0, at = calls.phone_memory(table.length) >>> 0;
+  bytes().fill(0, handle, handle + 16);
+  bytes().set(table, at);
+  must(calls.phone_open(at, table.length, 0, handle));
   calls.phone_memory_back(at);
   return handle;
 }
 const world = opened(await unpacked("world.compact.gz"));
-const [shorts, services] = ["short.json", "sms.json"].map((it) => opened(readFileSync(`${tables}/${it}`)));
+const [shorts, services, alternates] = ["short.json", "sms.json", "alternates.json"].map((it) => opened(readFileSync(`${tables}/${it}`)));
 const regions = new Set(written("phone_regions", world).match(/../g));
 const about = (id) => told("phone_about_region", 8, world, ...text(id));
-const codeOf = (id) => view().getUint16(Number(about(id)), true);
+const codeOf = (id) => view().getUint16(about(id), true);
 
 // A number: its place, and that and the length of its texts; the text that it was read from.
 function numberBy(name, raw, ...words) {
   const at = room(64);
-  return { at, texts: wrote(name, 1, ...words, at).map(BigInt), raw };
+  return { at, texts: wrote(name, 1, ...words, at), raw };
 }
 const read = (hint, raw) => numberBy("phone_parse", raw, world, ...text(hint === "-" ? "" : hint), ...text(raw));
 function ofParts(parts) {
   const [, code, national, extension] = /^(\d+) (\d+)(?: (.*))?$/su.exec(parts), at = room(64), texts = text(extension ?? "");
-  const value = BigInt(national), own = view(), place = Number(at);
-  own.setBigUint64(place, value, true);
-  own.setBigUint64(place + 16, texts[1], true);
-  own.setUint8(place + 24, extension === undefined ? 0 : 1);
-  own.setUint16(place + 56, Number(code), true);
-  own.setUint8(place + 59, national.length - String(value).length);
+  const value = BigInt(national), own = view();
+  own.setBigUint64(at, value, true);
+  own.setUint32(at + 16, texts[1], true);
+  own.setUint8(at + 24, extension === undefined ? 0 : 1);
+  own.setUint16(at + 56, Number(code), true);
+  own.setUint8(at + 59, national.length - String(value).length);
   return { at, texts, raw: "" };
 }
 function part({ at, texts }, place) {
   if (!byteAt(at, place + 16)) return undefined;
-  const start = Number(texts[0]) + lengthAt(at + BigInt(place));
-  return decoder.decode(bytes().subarray(start, start + lengthAt(at + BigInt(place + 8))));
+  const start = texts[0] + lengthAt(at + place);
+  return decoder.decode(bytes().subarray(start, start + lengthAt(at + place + 8)));
 }
-const code = ({ at }) => view().getUint16(Number(at) + 56, true);
-const national = ({ at }) => "0".repeat(byteAt(at, 59)) + view().getBigUint64(Number(at), true);
+const code = ({ at }) => view().getUint16(at + 56, true);
+const national = ({ at }) => "0".repeat(byteAt(at, 59)) + view().getBigUint64(at, true);
 const parts = (n) => [code(n), national(n), ...[part(n, 8)].filter(Boolean)].join(" ");
 const example = (name, ...words) => or("-", [19, 32], () => parts(numberBy(name, "", ...words)));
 
@@ -112,6 +112,7 @@ const KINDS = ["FixedLine", "Mobile", "FixedLineOrMobile", "TollFree", "PremiumR
   "Emergency", "Voicemail", "ShortCode", "StandardRate", "Carrier", "NoInternational", "Unknown"];
 const MODES = ["e164", "international", "national", "rfc3966"], SOURCES = ["Plus", "Idd", "Number", "Default"];
 const VERDICTS = ["IsPossible", "IsPossibleLocalOnly", "TooShort", "TooLong", "InvalidLength", "InvalidCountryCode"];
+const LENIENCIES = ["POSSIBLE", "VALID", "STRICT_GROUPING", "EXACT_GROUPING"];
 const LIKENESS = ["NotANumber", "NoMatch", "ShortNsnMatch", "NsnMatch", "ExactMatch"], COSTS = ["TollFree", "StandardRate", "PremiumRate", "UnknownCost", "Any"];
 const known = (region) => text(regions.has(region) ? region : "");
 const carrierOf = (it) => text(it === "-" ? "" : it);
@@ -120,7 +121,7 @@ const numberFacts = (n) => told("phone_about_number", 24, world, n.at);
 const anywhere = (n) => told("phone_short_anywhere", 8, world, shorts, n.at);
 const kindsOf = (name, ...words) => {
   const [at, length] = wrote(name, 4, ...words);
-  return Array.from({ length }, (_, i) => KINDS[view().getUint32(Number(at) + 4 * i, true)]).join(" ") || "-";
+  return Array.from({ length }, (_, i) => KINDS[view().getUint32(at + 4 * i, true)]).join(" ") || "-";
 };
 /** A database of own layouts, as its text. */
 function layouts(rows) {
@@ -147,28 +148,42 @@ const OF_NUMBERS = {
   print: (n, mode) => written("phone_format_read", world, MODES.indexOf(mode.toLowerCase()), ...text(n.raw), ...whole(n)),
   mobile: (n, region, symbols) => written("phone_mobile_text", world, ...text(region), symbols === "yes" ? 1 : 0, ...text(n.raw), ...whole(n)),
   original: (n, region) => written("phone_original_text", world, ...known(region), ...text(n.raw), ...whole(n)),
+  letters: (n, region) => written("phone_text_with_letters", world, ...known(region), ...text(n.raw), ...whole(n)),
+  "own-letters": (n, region) => (n.raw ? written("phone_dialled_with_letters", world, ...known(region), ...text(n.raw), ...whole(n))
+    : written("phone_text_from", world, ...known(region), ...text(""), ...whole(n))),
+  "own-mobile": (n, region, symbols) => written("phone_own_mobile_text", world, ...text(region), symbols === "yes" ? 1 : 0, ...whole(n)),
   dialled: (n, region) => written("phone_text_from", world, ...known(region), ...text(n.raw), ...whole(n)),
   "by-layouts": byLayouts,
+  // E.164 text isn't laid out.
+  "own-by-layouts": (n, mode, ...rows) => (mode === "E164" ? written("phone_key", n.at) : byLayouts(n, mode, ...rows)),
   carrier: (n, it) => written("phone_national_with", world, ...whole(n), ...carrierOf(it), 0),
   preferred: (n, it) => written("phone_national_with", world, ...whole(n), ...carrierOf(it), 1),
   "area-length": (n) => String(lengthAt(numberFacts(n))),
-  "destination-length": (n) => String(lengthAt(numberFacts(n) + 8n)),
+  "destination-length": (n) => String(lengthAt(numberFacts(n) + 8)),
   geographical: (n) => (byteAt(numberFacts(n), 16) ? "yes" : "no"),
+  "own-from-abroad": (n) => flag("phone_reaches_from_abroad", world, n.at),
   "from-abroad": (n) => (byteAt(numberFacts(n), 17) ? "yes" : "no"),
   "valid-for": (n, region) => flag("phone_is_valid_for", world, ...text(region), n.at),
   possible: (n) => VERDICTS[count("phone_possibility", world, n.at)],
   "possible-kind": (n, kind) => VERDICTS[count("phone_possibility_as", world, KINDS.indexOf(kind), n.at)],
+  "own-possible-kind": (n, kind) => VERDICTS[count("phone_own_possibility", world, KINDS.indexOf(kind), n.at)],
   truncate: (n) => `${flag("phone_truncate", world, n.at)} ${parts(n)}`,
   match: (n, hint, other) => LIKENESS[count("phone_match_numbers", ...whole(n), ...whole(number(hint, other)))],
   "match-text": (n, other) => LIKENESS[count("phone_match_text", world, ...whole(n), ...text(other))],
+  "own-match": (n, hint, other) => LIKENESS[count("phone_own_match_numbers", ...whole(n), ...whole(number(hint, other)))],
+  "own-match-text": (n, other) => LIKENESS[count("phone_own_match_text", world, ...whole(n), ...text(other))],
   "short-possible": (n) => (byteAt(anywhere(n), 4) ? "yes" : "no"),
   "short-valid": (n) => (byteAt(anywhere(n), 5) ? "yes" : "no"),
   "short-carrier": (n) => (byteAt(anywhere(n), 6) ? "yes" : "no"),
-  "short-cost": (n) => COSTS[view().getUint32(Number(anywhere(n)), true)],
+  "short-cost": (n) => COSTS[view().getUint32(anywhere(n), true)],
+  "short-own-cost": (n) => COSTS[count("phone_known_cost", world, shorts, n.at)],
   "short-sms": (n, region) => or("no", [19], () => flag("phone_is_sms_service", world, services, ...text(region), n.at)),
 };
 const OF_THE_REST = {
   "match-texts": (one, other) => LIKENESS[count("phone_match_texts", world, ...text(one), ...text(other))],
+  "own-match-texts": (one, other) => LIKENESS[count("phone_own_match_texts", world, ...text(one), ...text(other))],
+  extract: (it) => written("phone_extract", ...text(it)),
+  "example-any": (kind) => example("phone_example_of_kind", world, KINDS.indexOf(kind)),
   "geographical-kind": (kind, code) => flag("phone_is_geographical", KINDS.indexOf(kind), Number(code)),
   "mobile-token": (code) => written("phone_mobile_token", Number(code)),
   "region-of": (code) => or("ZZ", [20], () => written("phone_main_region", world, Number(code))),
@@ -208,13 +223,12 @@ function question(name, ...words) {
   }
 }
 
-/** Matches in a text: places in characters, each with its number. The two stricter leniencies go by formats that the module hasn't. */
+/** Matches in a text, by alternate formats: places in characters, each with its number. */
 function matches(hint, leniency, it) {
-  const level = ["POSSIBLE", "VALID"].indexOf(leniency), region = hint === "-" ? "" : hint, own = encoder.encode(it);
-  if (level < 0) return undefined;
-  const [at, length] = wrote("phone_matches", 16, world, ...text(region), level, 0xffffffffffffffffn, ...text(own)), found = [];
+  const level = LENIENCIES.indexOf(leniency), region = hint === "-" ? "" : hint, own = encoder.encode(it);
+  const [at, length] = wrote("phone_matches_by", 16, world, alternates, ...text(region), level, 0xffffffff, ...text(own)), found = [];
   for (let i = 0; i < length; i++) {
-    const [start, end] = [0, 8].map((place) => lengthAt(at + BigInt(16 * i + place)));
+    const [start, end] = [0, 8].map((place) => lengthAt(at + 16 * i + place));
     const characters = (to) => [...decoder.decode(own.subarray(0, to))].length;
     const key = written("phone_key", read(region, decoder.decode(own.subarray(start, end))).at);
     found.push(`${characters(start)}..${characters(end)}:${key}`);

@@ -57,6 +57,10 @@ must(number.formatNational(), "03 331 6005 ext. 7", "another extension");
 must(parsePhoneNumber("+64 3 331 6005").formatFrom("US"), "011 64 3 331 6005", "from abroad");
 const found = phones.findPhoneNumbersInText("\u{1F4DE} 03-331 6005, \u00fcber 09 887 6986", "NZ");
 must(found.map((it) => [it.startsAt, it.endsAt, it.number.number]), [[3, 14, "+6433316005"], [21, 32, "+6498876986"]], "found");
+for (const [leniency, places] of [["POSSIBLE", [[0, 13], [15, 30]]], ["VALID", []], [undefined, []]]) {
+  const all = phones.findPhoneNumbersInText("1 650 253 000, +1 555 253 0000", { defaultCountry: "NZ", leniency });
+  must(all.map((it) => [it.startsAt, it.endsAt]), places, `found if ${leniency}`);
+}
 must([...phones.searchPhoneNumbersInText("none", "NZ")], [], "none found");
 const typing = new AsYouType("NZ");
 must([..."033316005"].map((key) => typing.input(key)).pop(), "03 331 6005", "typed");
@@ -117,10 +121,10 @@ for (let i = 0; i < 20000; i++) ask(i);
 must(String(instance.exports.heap_taken()), String(held), "memory");
 let refused = 0;
 // The heap is filled but for some blocks, and gets no more memory, so that each request of a call is refused in turn.
-instance.exports.phone_memory_most(0n);
+instance.exports.phone_memory_most(0);
 const kept = [];
-for (let size = 1n << 24n; size >= 16n; size >>= 1n) {
-  for (let at; (at = instance.exports.phone_memory(size)) !== 0n; ) kept.push(at);
+for (let size = 1 << 24; size >= 16; size >>= 1) {
+  for (let at; (at = instance.exports.phone_memory(size)) !== 0; ) kept.push(at);
 }
 for (let isTold = false; !isTold && kept.length; ) {
   try {
@@ -133,7 +137,7 @@ for (let isTold = false; !isTold && kept.length; ) {
   }
 }
 for (const at of kept) instance.exports.phone_memory_back(at);
-instance.exports.phone_memory_most((1n << 64n) - 1n);
+instance.exports.phone_memory_most(-1);
 must(ask(2).split("\t")[1], "+6433316002", "after refused memory");
 must(refused > 0, true, "memory is refused");
 console.log(`memory: refused ${refused} times`);

@@ -81,6 +81,8 @@ void *memset(void *to, int byte, size_t n) {
 }
 int memcmp(const void *one, const void *two, size_t n) {
     const uint8_t *a = one, *b = two;
+    for (; n >= 8; n -= 8, a += 8, b += 8)
+        if (*(const u64 *)a != *(const u64 *)b) break;
     for (size_t i = 0; i < n; i++)
         if (a[i] != b[i]) return a[i] - b[i];
     return 0;

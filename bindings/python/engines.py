@@ -80,11 +80,20 @@ def given_to(engine, texts, hints):
     return texts, hints
 
 
-def timed(world, given, threads):
-    """What columns tell by as many threads, and their seconds."""
+def asked(engine, world, given, threads, columns=COLUMNS):
+    """What columns tell by as many threads: of Arrow as its own table."""
+    told = world.columns(*given, columns, threads)
+    if engine != "arrow":
+        return told
+    import pyarrow
+    return pyarrow.table(told)
+
+
+def timed(engine, world, given, threads, columns=COLUMNS):
+    """The same, and its seconds."""
     clock = time.process_time if threads == 1 else time.perf_counter
     began = clock()
-    told = world.columns(*given, COLUMNS, threads)
+    told = asked(engine, world, given, threads, columns)
     return told, clock() - began
 
 
@@ -93,8 +102,6 @@ def lines_told(engine, told):
     if engine == "pandas":
         told = {name: told[name].astype(object).where(told[name].notna(), None).tolist() for name in COLUMNS}
     elif engine == "arrow":
-        import pyarrow
-        told = pyarrow.table(told)
         told = {name: told.column(name).to_pylist() for name in COLUMNS}
     return rows_of(told)
 
@@ -129,7 +136,7 @@ class Processes:
             try:
                 while True:
                     self.start.wait(WAIT)
-                    told = world.columns(*given, COLUMNS, 1)
+                    told = asked(engine, world, given, 1)
                     self.end.wait(WAIT)
                     del told
             except threading.BrokenBarrierError:
@@ -216,14 +223,14 @@ def main():
                 tell("list, single calls", len(texts) * single / 1e6)
             given = given_to(engine, texts, hints)
             for count in 1, threads:
-                told, seconds = timed(world, given, count)
-                compare(engine, lines_told(engine, told), answers)
-                if count == 1:
-                    tell(f"{engine}, 1 thread", seconds)
-            del told
+                compare(engine, lines_told(engine, asked(engine, world, given, count)), answers)
+            for _ in range(TURNS):
+                tell(f"{engine}, 1 thread", timed(engine, world, given, 1)[1])
+                if engine == "arrow":
+                    tell("arrow, E.164 alone, 1 thread", timed(engine, world, given, 1, ("e164",))[1])
             beside = Processes(engine, texts, hints, threads) if engine in ("list", "arrow") else None
             for _ in range(TURNS):
-                tell(f"{engine}, {threads} threads", timed(world, given, threads)[1])
+                tell(f"{engine}, {threads} threads", timed(engine, world, given, threads)[1])
                 if beside:
                     tell(f"{engine}, {threads} processes", beside.seconds())
             if beside:

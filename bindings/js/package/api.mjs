@@ -45,7 +45,7 @@ class Piece {
   texts(number) {
     const [[offsets], [start, end]] = this.places.get(number), all = this.bytes.subarray(start, end);
     const text = LATIN.decode(all), isAscii = !/[^\0-\x7f]/.test(text);
-    const place = (row) => Number(this.view.getBigUint64(offsets + 8 * row, true));
+    const place = (row) => this.view.getUint32(offsets + 8 * row, true);
     return (row) => (isAscii ? text.slice(place(row), place(row + 1)) : UTF8.decode(all.subarray(place(row), place(row + 1))));
   }
 }

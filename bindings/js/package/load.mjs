@@ -9,8 +9,10 @@ const PROBE = new Uint8Array([0, 97, 115, 109, 1, 0, 0, 0, 1, 5, 1, 96, 0, 1, 12
 export const isSupported = () =>
   typeof WebAssembly === "object" && typeof BigInt === "function" && typeof DecompressionStream === "function" && WebAssembly.validate(PROBE);
 
+const isNode = Boolean(globalThis.process?.versions?.node);
+
 async function bytesOf(url) {
-  if (url.protocol === "file:" && globalThis.process?.versions?.node) {
+  if (url.protocol === "file:" && isNode) {
     const { readFile } = await import("node:fs/promises");
     return readFile(url);
   }
@@ -22,6 +24,7 @@ async function bytesOf(url) {
 /** The bytes that gzip made smaller. */
 async function unpacked(bytes) {
   if (bytes[0] !== 0x1f || bytes[1] !== 0x8b) return bytes;
+  if (isNode) return (await import("node:zlib")).gunzipSync(bytes);
   const stream = new Blob([bytes]).stream().pipeThrough(new DecompressionStream("gzip"));
   return new Uint8Array(await new Response(stream).arrayBuffer());
 }
@@ -36,10 +39,10 @@ export async function load({ module, table, rules = "library" } = {}) {
   for (const bytes of [module, table])
     if (bytes != null && !(bytes instanceof Uint8Array)) throw new TypeError("a module or a table is bytes, in a Uint8Array");
   if (rules !== "library" && rules !== "crate") throw new TypeError(`no rules: ${String(rules)}`);
+  const file = async (bytes, name) => unpacked(bytes ?? (await bytesOf(new URL(name, import.meta.url))));
   const [code, records] = await Promise.all([
-    module ?? bytesOf(new URL("./phone.wasm.gz", import.meta.url)),
-    table ?? bytesOf(new URL("./world.compact.gz", import.meta.url)),
+    file(module, "./phone.wasm.gz").then((bytes) => WebAssembly.compile(bytes)),
+    file(table, "./world.compact.gz"),
   ]);
-  const { instance } = await WebAssembly.instantiate(await unpacked(code), {});
-  return bind(new Engine(instance, await unpacked(records), rules === "crate" ? 1 : 0));
+  return bind(new Engine(await WebAssembly.instantiate(code, {}), records, rules === "crate" ? 1 : 0));
 }

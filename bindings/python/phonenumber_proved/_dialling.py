@@ -1,4 +1,4 @@
-"""How `phonenumbers` prints numbers: as they were written, to be dialled, by own layouts."""
+"""How `phonenumbers` formats numbers: as they were written, to be dialled, by own layouts."""
 
 from __future__ import annotations
 

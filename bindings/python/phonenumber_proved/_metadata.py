@@ -36,7 +36,7 @@ class _Record(Fixed):
 
 
 class NumberFormat(_Record):
-    """A layout: the digits that it fits, and how they are printed."""
+    """A layout: the digits that it fits, and how they are formatted."""
 
     def __init__(
         self, pattern: Optional[str] = None, format: Optional[str] = None,

@@ -23,7 +23,7 @@ class _Names:
 
 
 class PhoneNumberFormat(_Names):
-    """How a number is printed."""
+    """How a number is formatted."""
 
     E164 = 0
     INTERNATIONAL = 1
@@ -245,12 +245,12 @@ class FrozenPhoneNumber(Fixed, PhoneNumber):
         self.__dict__.update({name: getattr(plain, name) for name in _NAMES})
 
     def clear(self) -> None:
-        """Is refused."""
+        """Raises: it never changes."""
         self._check()
         super().clear()
 
     def merge_from(self, other: PhoneNumber) -> None:
-        """Is refused."""
+        """Raises: it never changes."""
         self._check()
         super().merge_from(other)
 

@@ -178,7 +178,7 @@ class Told:
     """What columns tell of the rows of a column of texts, by Arrow's protocol of capsules.
 
     `pyarrow.table(told)`, and what else takes an object with `__arrow_c_stream__`, makes a table of
-    it. Texts are Arrow's large strings; kinds, sources and refusals are dictionaries of words.
+    it. Texts are Arrow's large strings; kinds, sources and errors are dictionaries of words.
     """
 
     def __init__(
@@ -225,10 +225,18 @@ class Told:
         return _arrow.stream_capsule(self.names, types, batches)
 
 
-def _words(words: Sequence[str]) -> _arrow.Given:
-    chunk = chunk_of(words)
-    offsets, data, _ = chunk.keep
+@functools.lru_cache(None)
+def _words(column: Column) -> _arrow.Given:
+    """The words of a column, as Arrow has them, made once."""
+    words = words_of_column(column)
+    offsets, data, _ = chunk_of(words).keep
     return _arrow.Given(b"U", len(words), (None, offsets, data))
+
+
+@functools.lru_cache(None)
+def _pairs() -> array[int]:
+    """The offsets of texts of two bytes, as many as a piece has at most, made once."""
+    return array("i", range(0, 2 * _PIECE + 1, 2))
 
 
 def _given(piece: Piece, column: Column) -> _arrow.Given:
@@ -241,15 +249,13 @@ def _given(piece: Piece, column: Column) -> _arrow.Given:
     if column == Column.VALIDITY:
         return _arrow.Given(b"b", count, (bits, bits_of(data.tobytes())))
     if column == Column.REGION:
-        has_letters = bits_of(data[::2].tobytes())
-        offsets = array("i", range(0, 2 * count + 1, 2))
-        return _arrow.Given(b"u", count, (has_letters, offsets, data))
+        has_letters = bits_of(data.tobytes()[::2])
+        return _arrow.Given(b"u", count, (has_letters, _pairs(), data))
     if column == Column.REFUSAL:
         refused = bits_of(data.tobytes())
-        return _arrow.Given(b"C", count, (refused, data), _words(_refusals()))
-    words = words_of_column(column)
-    if words:
-        return _arrow.Given(b"C", count, (bits, data), _words(words))
+        return _arrow.Given(b"C", count, (refused, data), _words(column))
+    if column in (Column.KIND, Column.SOURCE):
+        return _arrow.Given(b"C", count, (bits, data), _words(column))
     return _arrow.Given(_ARROW_TYPES[column], count, (bits, data))
 
 

@@ -176,7 +176,7 @@ class Database(Asked, Records):
         """What is shown of a number while it is typed, once these keys are.
 
         Keys are digits of any script, and a plus sign before all of them; all else in the text is
-        dropped. The hint is the region that digits without a plus sign are dialled in.
+        dropped. `hint` is the region that digits without a plus sign are dialled in.
 
         >>> from phonenumber_proved import Database
         >>> with Database.load() as world:

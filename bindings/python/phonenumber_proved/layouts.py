@@ -1,4 +1,4 @@
-"""Layouts of a program's own, by which numbers are printed."""
+"""Layouts of a program's own, by which numbers are formatted."""
 
 from __future__ import annotations
 

@@ -72,7 +72,7 @@ class Atlas(Held):
 
     @classmethod
     def load(cls, path: PathText) -> "Atlas":
-        """Is refused: an atlas is of a locale, whose files it finds."""
+        """Raises TypeError: an atlas is of a locale, whose files it finds."""
         raise TypeError("an Atlas is of a locale, and not of a file")
 
     def _texts(self, kind: str, parts: List[str], english: str) -> List[Optional[Prefixes]]:

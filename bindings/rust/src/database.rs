@@ -277,7 +277,7 @@ impl<'d> By<'d> {
     }
 }
 
-/// The printer of a number in a mode.
+/// The formatter of a number in a mode.
 #[derive(Clone, Copy, Debug)]
 pub struct Formatter<'a> {
     by: By<'a>,
@@ -286,7 +286,7 @@ pub struct Formatter<'a> {
 }
 
 impl Formatter<'_> {
-    /// The same printer in another mode.
+    /// The same formatter in another mode.
     pub fn mode(self, mode: Mode) -> Self {
         Formatter { mode, ..self }
     }

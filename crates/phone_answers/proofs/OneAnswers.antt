@@ -151,11 +151,13 @@ module _ (rules : Rules) (db : List Metadata) (short : Option (List Metadata)) (
   pub one_line_object : (d e : Data) → IsObject rules db short hint place line d →
       IsObject rules db short hint place line e → d ≡ e
   one_line_object _ _ (no_text_object n a x h) (no_text_object k b y g) =
-      ap (object_of place null) (one_field_answer rules db short hint line n k a b h g).1
+      let same = one_field_answer rules db short hint line n k a b h g in
+      ap₂ (object_of rules db place null) same.0 same.1
   one_line_object _ _ (no_text_object n a x h) (object_of_text k b u g) = absurd (x u)
   one_line_object _ _ (object_of_text n a u h) (no_text_object k b y g) = absurd (y u)
   one_line_object _ _ (object_of_text n a u h) (object_of_text k b w g) =
-      ap (object_of place (string line)) (one_field_answer rules db short hint line n k a b h g).1
+      let same = one_field_answer rules db short hint line n k a b h g in
+      ap₂ (object_of rules db place (string line)) same.0 same.1
 
   -- and one text of it
   pub one_object_line : (a b : List ℕ) → IsObjectLine rules db short hint place line a →

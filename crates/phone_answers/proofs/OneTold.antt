@@ -120,9 +120,7 @@ module _ (rules : Rules) (db : List Metadata) where
   tables_same c one kind.TimeZones type region n a b h g = found_same (entries_in c.table) one.0 (zone_digits type n) a b h g
   tables_same c one (kind.Carrier owner) type region n a b h g = if_one _ (IsSpoken c (digits_of n)) (spoken_same c one (digits_of n)) a b h g
   tables_same c one kind.Area type region n a b h g = if_one _ (IsAreaIn db c n) (area_same c one n) a b h g
-  tables_same c one kind.Extension type region n a b h g = h ∙ sym g
-  tables_same c one kind.CallingCode type region n a b h g = h ∙ sym g
-  tables_same c one kind.NationalNumber type region n a b h g = h ∙ sym g
+  tables_same c one (kind.Part part) type region n a b h g = h ∙ sym g
   tables_same c one kind.Doubts type region n a b h g = h ∙ sym g
   tables_same c one (kind.Split which shown) type region n a b h g = h ∙ sym g
 
@@ -131,7 +129,7 @@ module _ (rules : Rules) (db : List Metadata) where
       (a b : List ℕ) → IsToldBy rules db under field number column a → IsToldBy rules db under field number column b → a ≡ b
   by_same under field column one None a b h g = h ∙ sym g
   by_same under field column one (Some n) a b h g =
-      part_same (part_of column.told n) _ (tables_same column one column.told (kind_by rules db n) (region_by rules db n) n) a b h g
+      part_same (part_of rules db column.told n) _ (tables_same column one column.told (kind_by rules db n) (region_by rules db n) n) a b h g
 
   -- of one of two numbers one thing is told
   one_same : (which : Which) (n k x y : Reading) → n ≡ x → k ≡ y → one_of which n k ≡ one_of which x y

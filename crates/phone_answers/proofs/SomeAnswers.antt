@@ -84,6 +84,6 @@ pub object_of_answer : (rules : Rules) (db : List Metadata) (short : Option (Lis
     (d : Data) × IsObject rules db short hint place line d
 object_of_answer rules db short hint place line _ _ (no_text x) =
     let words = refused_answer (codes "not UTF-8") in
-    (object_of place null words, no_text_object None words x (no_text x))
+    (object_of rules db place null None words, no_text_object None words x (no_text x))
 object_of_answer rules db short hint place line _ _ (of_text n a u h) =
-    (object_of place (string line) a, object_of_text n a u (of_text n a u h))
+    (object_of rules db place (string line) n a, object_of_text n a u (of_text n a u h))

@@ -214,9 +214,7 @@ module _ (rules : Rules) (db : List Metadata) where
   tables_some c kind.TimeZones type region n = found_some (entries_in c.table) (zone_digits type n)
   tables_some c (kind.Carrier owner) type region n = if_some _ (IsSpoken c (digits_of n)) (spoken_some c (digits_of n))
   tables_some c kind.Area type region n = if_some _ (IsAreaIn db c n) (area_some c n)
-  tables_some c kind.Extension type region n = ([], refl)
-  tables_some c kind.CallingCode type region n = ([], refl)
-  tables_some c kind.NationalNumber type region n = ([], refl)
+  tables_some c (kind.Part part) type region n = ([], refl)
   tables_some c kind.Doubts type region n = ([], refl)
   tables_some c (kind.Split which shown) type region n = ([], refl)
 
@@ -224,7 +222,7 @@ module _ (rules : Rules) (db : List Metadata) where
       (text : List ℕ) × IsToldBy rules db under field number column text
   by_some under field column None = ([], refl)
   by_some under field column (Some n) =
-      part_some (part_of column.told n) _ (tables_some column column.told (kind_by rules db n) (region_by rules db n) n)
+      part_some (part_of rules db column.told n) _ (tables_some column column.told (kind_by rules db n) (region_by rules db n) n)
 
   beside_some : (under : Option (Option Id)) (field : List ℕ) (column : Extra) (number : Option Reading) (split : Option (Which × Shown)) → is_some split ≡ false →
       (text : List ℕ) × IsToldBeside split rules db under field number column text

@@ -23,9 +23,9 @@ use Rattle.phone_engine.specs.Facts.{kind_by, region_by}
 use Rattle.phone_values.specs.declared.rules.Rules.{Rules}
 use Rattle.phone_answers.specs.declared.extra.Extra.{Extra}
 use Rattle.phone_answers.specs.declared.extra.Told.{Told}
-use Rattle.phone_answers.specs.declared.extra.Told.TheVariants.{Area, CallingCode, Carrier}
-use Rattle.phone_answers.specs.declared.extra.Told.TheVariants.{Doubts, Extension, NationalNumber}
-use Rattle.phone_answers.specs.declared.extra.Told.TheVariants.{Prefix, Split, TimeZones}
+use Rattle.phone_answers.specs.declared.extra.Told.TheVariants.{Area, Carrier, Doubts, Prefix}
+use Rattle.phone_answers.specs.declared.extra.Told.TheVariants.{Part, Split, TimeZones}
+use Rattle.phone_answers.specs.Parts.{part_told}
 use Rattle.phone_answers.specs.Splits.{IsSplit}
 use Rattle.phone_answers.specs.declared.split.Shown.{Shown}
 use Rattle.phone_answers.specs.declared.split.Which.{Which}
@@ -92,13 +92,10 @@ IsOfTables db c Area kind region n text =
     IsIf (is_geographical kind n.code.value) (IsAreaIn db c n) text
 IsOfTables db c other kind region n text = text ≡ []
 
--- the part of a number that is told: its extension, which is empty where it has none; the digits of
--- its calling code; its national number, the leading zeros with the value; none where a table tells
-abbrev pub part_of : Told → Reading → Option (List ℕ)
-part_of Extension n = Some (unwrap_or n.extension [])
-part_of CallingCode n = Some (code_digits n)
-part_of NationalNumber n = Some (text_of n.national)
-part_of told n = None
+-- the part of a number that a column tells; none where a table tells
+abbrev pub part_of : Rules → List Metadata → Told → Reading → Option (List ℕ)
+part_of rules db (Part part) n = Some (part_told rules db part n)
+part_of rules db other n = None
 
 -- a text is this part; without one it is so
 abbrev pub IsPartOr : Option (List ℕ) → (List ℕ → Type 0) → List ℕ → Type 0
@@ -109,7 +106,7 @@ IsPartOr None IsSo text = IsSo text
 abbrev pub IsToldBy : Rules → List Metadata → (under : Option (Option Id)) → (field : List ℕ) →
     Option Reading → Extra → List ℕ → Type 0
 IsToldBy rules db under field None c text = text ≡ []
-IsToldBy rules db under field (Some n) c text = IsPartOr (part_of c.told n)
+IsToldBy rules db under field (Some n) c text = IsPartOr (part_of rules db c.told n)
     (IsOfTables db c c.told (kind_by rules db n) (region_by rules db n) n) text
 
 -- the words of what is suspicious about such a field; nothing where it wasn't read, or its bytes

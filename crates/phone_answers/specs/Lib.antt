@@ -4,6 +4,7 @@ pub mod Extras
 pub mod Fields
 pub mod Finds
 pub mod Objects
+pub mod Parts
 pub mod Shorts
 pub mod Spelled
 pub mod Splits

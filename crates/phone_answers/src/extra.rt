@@ -7,9 +7,7 @@ ghost use Rattle.std.specs.Fmt.{decimal};
 ghost use Rattle.std.specs.Option.{option_copied};
 ghost use Rattle.csv.specs.Records.{fields_of, partial_of};
 ghost use Rattle.phone_csv.specs.Formats.{Record};
-ghost use Rattle.phone_maps.specs.Maps.{code_digits, digits_of, has_carrier, is_first};
-ghost use Rattle.phone_maps.specs.Maps.{is_geographical};
-ghost use Rattle.phone_values.specs.Numbers.{text_of as national_text};
+ghost use Rattle.phone_maps.specs.Maps.{digits_of, has_carrier, is_first, is_geographical};
 ghost use Rattle.phone_answers.specs.Extras.{AreTold, IsAreaIn, IsFound, IsIf, IsOfTables};
 ghost use Rattle.phone_answers.specs.Extras.{IsPartOr, IsSpoken, IsSuspicion, IsTold, IsToldBeside};
 ghost use Rattle.phone_answers.specs.Extras.{IsToldBy, entries_in, is_portable, is_unknown};
@@ -18,7 +16,7 @@ ghost use Rattle.phone_answers.specs.Splits.{IsSplit};
 ghost use Rattle.phone_answers.specs.Spelled.{IsKnownIn, number_in};
 
 use crate::answer::{Answer, Known};
-use crate::finds::extension_of;
+use crate::parts::{Part, part_told};
 use crate::split::{Shown, Which, split_of};
 use csv::ByteRecord;
 use itoa::Buffer;
@@ -29,23 +27,18 @@ use phone_maps::{Owner, has_carrier, is_geographical};
 use phone_places::area;
 use phone_plans::Plans;
 use phone_prefixes::Prefixes;
-use phone_print::written::text_of_value;
 use phone_values::Type;
 use phonenumber::country::Id;
 use phonenumber::{Facts, PhoneNumber};
-use std::alloc::{AllocError, Global};
+use std::alloc::AllocError;
 use std::borrow::CowStr;
 use std::marker::Model;
 
 /// What a column tells of a number: a part of it, or what a table of prefixes has.
 #[derive(Clone, Copy, PartialEq, Eq, Debug)]
 pub enum Told {
-    /// Its extension; empty where it has none.
-    Extension,
-    /// The digits of its calling code.
-    CallingCode,
-    /// Its national number: the leading zeros, and the digits of the value.
-    NationalNumber,
+    /// A part of it.
+    Part(Part),
     /// The text of the longest prefix that begins the digits of its E.164 text.
     Prefix,
     /// Its time zones, of which several are parted by `&`. A number that belongs to no place in its
@@ -252,42 +245,24 @@ fn behind_plus(text: &str) -> &str
     }
 }
 
-/// The digits of a number's calling code. Refused only for memory.
-fn code_of(alloc: Global, number: &PhoneNumber) -> Result<String, AllocError>
-    ensures { IfOk result (λ text. string_bytes text ≡ code_digits number.now) }
-{
-    let code = number.code().value();
-    text_of_value(alloc, format_args!("{code}"))
-}
-
-/// The digits of a national number, its leading zeros with them. Refused only for memory.
-fn national_of(alloc: Global, number: &PhoneNumber) -> Result<String, AllocError>
-    ensures { IfOk result (λ text. string_bytes text ≡ national_text number.now.national) }
-{
-    let national = number.national();
-    text_of_value(alloc, format_args!("{national}"))
-}
-
 /// What a column tells of a number, of which this is known. Refused only for memory.
 fn part_of<'a>(
-    database: &Plans,
+    engine: Engine<'_>,
     column: &Extra<'a>,
     number: &'a PhoneNumber,
     known: &Known,
 ) -> Result<CowStr<'a>, AllocError>
     requires { string_bytes known.now.texts.e164 ≡ 43 ∷ digits_of number.now }
-    ensures { IfOk result (λ text. IsPartOr (part_of column.now.told number.now)
-        (IsOfTables database.now column.now column.now.told known.now.facts.kind
+    ensures { IfOk result (λ text. IsPartOr
+        (part_of engine.entry.rules engine.entry.database.now column.now.told number.now)
+        (IsOfTables engine.entry.database.now column.now column.now.told known.now.facts.kind
         known.now.facts.region number.now) (cow_str_bytes text)) }
 {
-    let alloc = database.allocator();
     match column.told {
-        Told::Extension => Ok(CowStr::Borrowed(extension_of(number))),
-        Told::CallingCode => Ok(CowStr::Owned(code_of(alloc, number)?)),
-        Told::NationalNumber => Ok(CowStr::Owned(national_of(alloc, number)?)),
+        Told::Part(part) => part_told(engine, part, number),
         _ => {
             let digits = behind_plus(known.texts.e164.as_str());
-            let text = found(database, column, number, known.facts, digits)?;
+            let text = found(engine.database, column, number, known.facts, digits)?;
             Ok(CowStr::Borrowed(text))
         }
     }
@@ -312,7 +287,7 @@ pub fn tells_doubts(told: Told) -> bool
 }
 
 /// The number of an answer, where it has one.
-fn number_of(answer: &Answer) -> Option<&PhoneNumber>
+pub(crate) fn number_of(answer: &Answer) -> Option<&PhoneNumber>
     ensures { option_copied result ≡ number_in answer.now }
 {
     match answer {
@@ -424,7 +399,7 @@ fn told_of_number<'a>(
         column.now (cow_str_bytes text)) }
 {
     match subject.answer {
-        Answer::Number(number, known) => part_of(engine.database, column, number, known),
+        Answer::Number(number, known) => part_of(engine, column, number, known),
         Answer::Short(_, _) | Answer::Refused(_) => Ok(CowStr::Borrowed("")),
     }
 }

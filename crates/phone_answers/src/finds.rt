@@ -14,13 +14,13 @@ ghost use Rattle.phone_answers.specs.declared.field.Field.TheVariants as field;
 
 use crate::answer::known_of;
 use crate::field::{Cells, Field};
-use crate::objects::{object_with, with_fields, with_number, with_text};
+use crate::objects::{object_with, with_fields, with_number, with_parts_of, with_text};
 use csv::ByteRecord;
 use itoa::Buffer;
 use phone_engine::Engine;
 use phonenumber::{FormatError, PhoneNumber};
 use serde_json::{Map, Value};
-use std::alloc::{AllocError, Global};
+use std::alloc::AllocError;
 
 /// Where a number was found in a text.
 #[derive(Clone, Copy)]
@@ -34,9 +34,9 @@ pub struct Spot<'a> {
 }
 
 /// The JSON text of a number that was found in a text, on one line: an object of its line and
-/// column, the piece of the text, the fields that `object_line` has by this engine but the refusal,
-/// and its `extension`, which is empty where it has none. `UnknownCode` where the database lists no
-/// territory of the code; `Memory` where memory was refused.
+/// column, the piece of the text, the fields and parts that `object_line` has by this engine but
+/// the refusal, and its `extension`, which is empty where it has none. `UnknownCode` where the
+/// database lists no territory of the code; `Memory` where memory was refused.
 pub fn found_object(
     engine: Engine<'_>,
     spot: Spot<'_>,
@@ -48,8 +48,7 @@ pub fn found_object(
         first_of (territories number.now.code.value engine.entry.database.now) ≡ None }
 {
     let known = known_of(engine, number)?;
-    let alloc = engine.database.allocator();
-    match text_of_found(alloc, spot, extension_of(number), Cells::Number(&known)) {
+    match text_of_found(engine, spot, number, Cells::Number(&known)) {
         Ok(text) => Ok(text),
         Err(_) => Err(FormatError::Memory),
     }
@@ -170,31 +169,34 @@ pub(crate) fn extension_of(number: &PhoneNumber) -> &str
 
 /// The text of the object of these fields. Refused only for memory.
 fn text_of_found(
-    alloc: Global,
+    engine: Engine<'_>,
     spot: Spot<'_>,
-    extension: &str,
+    number: &PhoneNumber,
     cells: Cells<'_>,
 ) -> Result<String, AllocError>
     ensures { IfOk result (λ s. string_bytes s ≡
-        compact_text (object_of_found spot.entry extension.now (spelled_by cells.entry))) }
+        compact_text (object_of_found engine.entry.rules engine.entry.database.now spot.entry
+        number.now (spelled_by cells.entry))) }
 {
-    let object = object_of_found(alloc, spot, extension, cells)?;
-    object.to_string(alloc)
+    let object = object_of_found(engine, spot, number, cells)?;
+    object.to_string(engine.database.allocator())
 }
 
 /// The object of these fields. Refused only for memory.
 fn object_of_found(
-    alloc: Global,
+    engine: Engine<'_>,
     spot: Spot<'_>,
-    extension: &str,
+    number: &PhoneNumber,
     cells: Cells<'_>,
 ) -> Result<Value, AllocError>
-    ensures { IfOk result (λ v.
-        view v ≡ object_of_found spot.entry extension.now (spelled_by cells.entry)) }
+    ensures { IfOk result (λ v. view v ≡ object_of_found engine.entry.rules
+        engine.entry.database.now spot.entry number.now (spelled_by cells.entry)) }
 {
+    let alloc = engine.database.allocator();
     let members = with_number(Ok(Map::new(alloc)), alloc, "line", spot.line);
     let members = with_number(members, alloc, "column", spot.column);
     let members = with_text(members, alloc, "text", spot.piece);
     let members = with_fields(members, alloc, &Field::OF_NUMBER, cells);
-    object_with(with_text(members, alloc, "extension", extension))
+    let members = with_parts_of(members, engine, number);
+    object_with(with_text(members, alloc, "extension", extension_of(number)))
 }

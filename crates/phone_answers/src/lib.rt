@@ -8,11 +8,13 @@ mod field;
 pub mod finds;
 pub mod laws;
 pub mod objects;
+mod parts;
 mod split;
 mod words;
 
 pub use answer::{Answer, Known, answer_to, push_answer};
 pub use extra::{Extra, Subject, Told, push_told, tells_doubts};
 pub use field::{ANSWER_WIDTH, Field};
+pub use parts::Part;
 pub use phone_maps::Owner;
 pub use split::{Shown, Which};

@@ -1,26 +1,36 @@
 //! What a line is answered, as a JSON object.
-ghost use Rattle.std.specs.Prelude.{◌≡◌, IfOk, option_map, string_bytes};
+ghost use Rattle.std.specs.Prelude.{◌≡◌, ℕ, IfOk, List, None, Some, option_map, string_bytes};
+ghost use Rattle.std.specs.Option.{option_copied};
 ghost use Rattle.serde_json.specs.Data.{Data, null, put, string, unsigned};
 ghost use Rattle.serde_json.specs.Data as json;
 ghost use Rattle.serde_json.specs.View.{view};
 ghost use Rattle.phone_answers.specs.Cells.{spelled_by};
 ghost use Rattle.phone_answers.specs.Objects.{AreMade, IsObject, IsObjectLine, object_of};
-ghost use Rattle.phone_answers.specs.Objects.{with_fields};
+ghost use Rattle.phone_answers.specs.Objects.{with_fields, with_parts};
+ghost use Rattle.phone_answers.specs.Parts.{part_told};
+ghost use Rattle.phone_answers.specs.Spelled.{number_in, spelled};
+ghost use Rattle.phone_records.specs.declared.loader.Metadata as loader;
+ghost use Rattle.phone_values.specs.declared.rules.Rules.{Rules};
 
-use crate::answer::{answer_to, cells_of};
+use crate::answer::{Answer, answer_to, cells_of};
+use crate::extra::number_of;
 use crate::field::{Cells, Field};
+use crate::parts::{Part, part_told};
 use phone_engine::Engine;
 use phone_plans::Plans;
+use phonenumber::PhoneNumber;
 use serde_json::{Map, Value};
 use std::alloc::{AllocError, Global};
 
 /// The JSON text of a line's answer by this engine, on one line: an object of the line's number,
-/// which the caller counts, its text, and the fields of its answer, each a text by its name. A
-/// field that there is none for is empty, but a region that is none is a hyphen, as in a table. The
-/// text is null where the line isn't UTF-8. The line is without its end. Where there is a database
-/// of short numbers and a hint, an emergency number of the hint's region always has the type
-/// `Emergency`, and another short number of it the type `ShortNumber` where no valid number is
-/// read; each has the hint's region, is `valid`, and has no other field. Refused only for memory.
+/// which the caller counts, its text, and the fields of its answer, each a text by its name; then,
+/// of the number that was read, `calling_code`, `national_number`, `possibility`, which has the
+/// words of `Part::Possibility`, and `area_code`, also texts. A field that there is none for is
+/// empty, but a region that is none is a hyphen, as in a table. The text is null where the line
+/// isn't UTF-8. The line is without its end. Where there is a database of short numbers and a hint,
+/// an emergency number of the hint's region always has the type `Emergency`, and another short
+/// number of it the type `ShortNumber` where no valid number is read; each has the hint's region,
+/// is `valid`, and has no other field. Refused only for memory.
 pub fn object_line(
     engine: Engine<'_>,
     short: Option<&Plans>,
@@ -45,11 +55,9 @@ fn object(
         (option_map (λ d. d.now) short.entry) engine.entry.hint place line.now (view v)) }
 {
     let answer = answer_to(engine, short, line)?;
-    let cells = cells_of(&answer);
-    let alloc = engine.database.allocator();
     match std::str::from_utf8(line) {
-        Ok(text) => object_of_text(alloc, place, text, cells),
-        Err(_) => object_without_text(alloc, place, cells),
+        Ok(text) => object_of_text(engine, place, text, &answer),
+        Err(_) => object_without_text(engine, place, &answer),
     }
 }
 
@@ -113,37 +121,99 @@ pub(crate) fn with_fields(
     members
 }
 
+/// These members and a part of a number, unless memory was or is refused.
+fn with_part(
+    members: Members,
+    engine: Engine<'_>,
+    key: &str,
+    part: Part,
+    number: &PhoneNumber,
+) -> Members
+    ensures { (ms : json.Members) → AreMade members ms → AreMade result (put key.now (string
+        (part_told engine.entry.rules engine.entry.database.now part number.now)) ms) }
+{
+    match part_told(engine, part, number) {
+        Ok(text) => with_text(members, engine.database.allocator(), key, text.as_str()),
+        Err(refusal) => Err(refusal),
+    }
+}
+
+/// These members and the parts of a number, unless memory was or is refused.
+pub(crate) fn with_parts_of(members: Members, engine: Engine<'_>, number: &PhoneNumber) -> Members
+    ensures { (ms : json.Members) → AreMade members ms → AreMade result
+        (with_parts engine.entry.rules engine.entry.database.now (Some number.now) ms) }
+{
+    let members = with_part(members, engine, "calling_code", Part::CallingCode, number);
+    let members = with_part(
+        members,
+        engine,
+        "national_number",
+        Part::NationalNumber,
+        number,
+    );
+    let members = with_part(members, engine, "possibility", Part::Possibility, number);
+    with_part(members, engine, "area_code", Part::AreaCode, number)
+}
+
+/// These members and parts of no number, which are empty, unless memory was or is refused.
+fn without_parts(members: Members, alloc: Global) -> Members
+    ensures { (rules : Rules) (db : List loader.Metadata) (ms : json.Members) →
+        AreMade members ms → AreMade result (with_parts rules db None ms) }
+{
+    let members = with_text(members, alloc, "calling_code", "");
+    let members = with_text(members, alloc, "national_number", "");
+    let members = with_text(members, alloc, "possibility", "");
+    with_text(members, alloc, "area_code", "")
+}
+
+/// These members and the parts of a number, which are empty where there is none, unless memory was
+/// or is refused.
+fn with_parts(members: Members, engine: Engine<'_>, number: Option<&PhoneNumber>) -> Members
+    ensures { (ms : json.Members) → AreMade members ms → AreMade result (with_parts
+        engine.entry.rules engine.entry.database.now (option_copied number.entry) ms) }
+{
+    match number {
+        Some(number) => with_parts_of(members, engine, number),
+        None => without_parts(members, engine.database.allocator()),
+    }
+}
+
 /// The object of a line, by its text or null.
 fn object_of(
-    alloc: Global,
+    engine: Engine<'_>,
     place: u64,
     text: Result<Value, AllocError>,
-    cells: Cells<'_>,
+    answer: &Answer,
 ) -> Result<Value, AllocError>
     ensures { (t : Data) → IfOk text (λ v. view v ≡ t) →
-        IfOk result (λ v. view v ≡ object_of place t (spelled_by cells.entry)) }
+        IfOk result (λ v. view v ≡ object_of engine.entry.rules engine.entry.database.now place t
+        (number_in answer.now) (spelled answer.now)) }
 {
+    let alloc = engine.database.allocator();
     let members = with_number(Ok(Map::new(alloc)), alloc, "line", place);
     let members = with_value(members, alloc, "text", text);
-    object_with(with_fields(members, alloc, &Field::ALL, cells))
+    let members = with_fields(members, alloc, &Field::ALL, cells_of(answer));
+    object_with(with_parts(members, engine, number_of(answer)))
 }
 
 /// The object of a text.
 fn object_of_text(
-    alloc: Global,
+    engine: Engine<'_>,
     place: u64,
     text: &str,
-    cells: Cells<'_>,
+    answer: &Answer,
 ) -> Result<Value, AllocError>
-    ensures { IfOk result
-        (λ v. view v ≡ object_of place (string text.now) (spelled_by cells.entry)) }
+    ensures { IfOk result (λ v. view v ≡ object_of engine.entry.rules engine.entry.database.now
+        place (string text.now) (number_in answer.now) (spelled answer.now)) }
 {
-    object_of(alloc, place, Value::try_from_str(alloc, text), cells)
+    let value = Value::try_from_str(engine.database.allocator(), text);
+    object_of(engine, place, value, answer)
 }
 
 /// The object of a line that is no text.
-fn object_without_text(alloc: Global, place: u64, cells: Cells<'_>) -> Result<Value, AllocError>
-    ensures { IfOk result (λ v. view v ≡ object_of place null (spelled_by cells.entry)) }
+fn object_without_text(engine: Engine<'_>, place: u64, answer: &Answer) -> Result<Value, AllocError>
+    ensures { IfOk result (λ v. view v ≡ object_of engine.entry.rules engine.entry.database.now
+        place null (number_in answer.now) (spelled answer.now)) }
 {
-    object_of(alloc, place, Ok(Value::Null), cells)
+    object_of(engine, place, Ok(Value::Null), answer)
 }

@@ -360,7 +360,7 @@ Pattern-send = view_send _ _ _ _ _ Pattern-inside-send
 Leading-inside-send : IsSend Leading-in.the_row
 Leading-inside-send = recorded_send (Leading-in.the_field).row _ _ (Leading-in.the_type).to_one
     (struct_send (S.shape Leading-in.the_type)
-    (Vec-send _ text.the_send, (option.the_field_send _ Pattern-send, tt)))
+    (Vec-send _ Pattern-send, (option.the_field_send _ Pattern-send, tt)))
 
 Leading-send : IsSend Leading.the_row
 Leading-send = view_send _ _ _ _ _ Leading-inside-send
@@ -534,7 +534,7 @@ Pattern-sync = view_sync _ _ _ _ _ Pattern-inside-sync
 Leading-inside-sync : IsSync Leading-in.the_row
 Leading-inside-sync = recorded_sync (Leading-in.the_field).row _ _ (Leading-in.the_type).to_one
     (struct_sync (S.shape Leading-in.the_type)
-    (Vec-sync _ text.the_sync, (option.the_field_sync _ Pattern-sync, tt)))
+    (Vec-sync _ Pattern-sync, (option.the_field_sync _ Pattern-sync, tt)))
 
 Leading-sync : IsSync Leading.the_row
 Leading-sync = view_sync _ _ _ _ _ Leading-inside-sync

@@ -13,10 +13,7 @@ use phone_c_base::buffer::give;
 use phone_c_base::hint::id_of;
 use phone_c_base::number::{Number, bare};
 use phone_c_base::status::{BAD_NUMBER, MEMORY, NO_EXAMPLE, NO_REGION, NO_WORD, OK, TOO_SMALL};
-use phone_dialling::{
-    cost_anywhere, is_carrier_anywhere, is_possible_anywhere, is_valid_anywhere, short_example,
-    short_example_of_cost,
-};
+use phone_dialling::{short_example, short_example_of_cost};
 use phone_plans::Plans;
 use phone_short::Cost;
 use phone_values::country::Id;
@@ -66,11 +63,12 @@ fn facts_anywhere(
     ensures { IfOk result (λ facts. facts ≡
         facts_anywhere database.now short.now number.now) }
 {
+    let told = phone_dialling::facts_anywhere(database, short, number)?;
     Ok(FactsAnywhere {
-        cost: cost_number(cost_anywhere(database, short, number)?),
-        is_possible: flag(is_possible_anywhere(database, short, number)?),
-        is_valid: flag(is_valid_anywhere(database, short, number)?),
-        is_carrier_specific: flag(is_carrier_anywhere(database, short, number)?),
+        cost: cost_number(told.cost),
+        is_possible: flag(told.is_possible),
+        is_valid: flag(told.is_valid),
+        is_carrier_specific: flag(told.is_carrier_specific),
     })
 }
 

@@ -24,6 +24,8 @@ use Rattle.phone_commands.specs.declared.takers.Objects.{Objects}
 use Rattle.phone_commands.specs.WithInputs.{IsWithInput}
 use Rattle.phone_commands.specs.declared.typist.Typist.{Typist}
 use Rattle.phone_commands.specs.declared.with_input.WithInput.{WithInput}
+use Rattle.phone_commands.specs.WrittenLines.{IsWrittenLine}
+use Rattle.phone_commands.specs.declared.written.Written.{Written}
 use Rattle.phone_encodings.specs.declared.encoding.Encoding.{Encoding}
 use Rattle.phone_engine.specs.ReportLines.{IsReportLine}
 use Rattle.phone_engine.specs.declared.engine.Engine.{Engine}
@@ -35,7 +37,8 @@ use Rattle.phone_table.specs.declared.summed.Totals.{Totals}
 use Rattle.phone_typed.specs.Fields.{Field}
 use Rattle.phone_values.specs.declared.country.Id.{Id}
 use Rattle.phone_cli.specs.Commands.{AnswersInputs, BeginsFound, Finding, GivesFound}
-use Rattle.phone_cli.specs.Commands.{GivesObjects, GivesShorts, GivesTyped, GivesWithInput, Reports, Tables}
+use Rattle.phone_cli.specs.Commands.{GivesObjects, GivesShorts, GivesTyped, GivesWithInput, GivesWritten}
+use Rattle.phone_cli.specs.Commands.{Reports, Tables}
 use Rattle.phone_cli.specs.Commands.AnswersInputs.{named, standard}
 use Rattle.phone_cli.proofs.Carried.{answers_in, lines_by}
 
@@ -260,6 +263,36 @@ with_input_by e files w before after last end =
         is.0,
         subst (λ (k : WithInput). IsWithInput k.engine.rules k.engine.database.now
             k.engine.hint line is.0) h is.1,
+        is.2,
+        refl,
+      ),
+      is.3 ∙ h,
+    ))) e files w before after last end refl
+
+-- numbers in a format
+abbrev pub WrittenGives : Written → List ℕ → List ℕ → Written → Type 0
+WrittenGives = each_by_itself (λ (w : Written). IsWrittenLine w.engine.rules w.engine.database.now w.engine.hint w.form)
+
+pub written_by : (e : Option Encoding) (files : List Name) (w : Written)
+    (before after : Devices) (last : Written) (end : Result ⊤ Failure) →
+    AnswersInputs (ActsIn e (TakesLines begins_with_nothing WrittenGives)) files w before
+    after last end →
+    AnswersInputs (ActsIn e (TakesLines begins_with_nothing
+    (GivesWritten w.engine.rules w.engine.database.now w.engine.hint w.form))) files tt
+    before after tt end
+written_by e files w before after last end =
+    answers_in (TakesLines begins_with_nothing WrittenGives)
+    (TakesLines begins_with_nothing
+    (GivesWritten w.engine.rules w.engine.database.now w.engine.hint w.form))
+    (λ _. tt) (λ k. k ≡ w)
+    (lines_by begins_with_nothing WrittenGives begins_with_nothing
+    (GivesWritten w.engine.rules w.engine.database.now w.engine.hint w.form) (λ _. tt) (λ k. k ≡ w)
+    (λ a head b h is. ((is.0, refl), is.1 ∙ h))
+    (λ a line answer b h is. (
+      (
+        is.0,
+        subst (λ (k : Written). IsWrittenLine k.engine.rules k.engine.database.now
+            k.engine.hint k.form line is.0) h is.1,
         is.2,
         refl,
       ),

@@ -19,6 +19,7 @@ use Rattle.phone_commands.specs.declared.strays.Tally.{Tally}
 use Rattle.phone_commands.specs.declared.takers.Objects.{Objects}
 use Rattle.phone_commands.specs.declared.typist.Typist.{Typist}
 use Rattle.phone_commands.specs.declared.with_input.WithInput.{WithInput}
+use Rattle.phone_commands.specs.declared.written.Written.{Written}
 use Rattle.phone_lines.specs.Ends.{Devices}
 use Rattle.phone_lines.specs.Taken.{begins_with_nothing}
 use Rattle.phone_plans.specs.CodeLookUps.{is_prefix_free}
@@ -29,21 +30,22 @@ use Rattle.phone_values.specs.declared.rules.Rules.{Rules}
 use Rattle.phone_words.specs.declared.call.Call.{Call}
 use Rattle.phone_words.specs.declared.command.Command.{Command}
 use Rattle.phone_words.specs.declared.command.Command.TheVariants as command
+use Rattle.phone_words.specs.declared.values.Form.{Form}
 use Rattle.phone_cli.specs.Answers.{AnswersReading, Does, IsAsked, IsLoaded, IsMatching, IsTableRun}
 use Rattle.phone_cli.specs.Answers.{Runs, finds, is_table, reads}
 use Rattle.phone_cli.specs.Answers.Does.{ran, unsummed}
 use Rattle.phone_cli.specs.Answers.Meets.{of_lines, of_table}
-use Rattle.phone_cli.specs.Answers.Runs.{firsts, found, objects, report, short, table, typed, with_input}
+use Rattle.phone_cli.specs.Answers.Runs.{firsts, found, objects, report, short, table, typed, with_input, written}
 use Rattle.phone_cli.specs.Commands.{AnswersInputs, BeginsFound, Finding, GivesFound}
-use Rattle.phone_cli.specs.Commands.{GivesObjects, GivesWithInput, Reports, Tables}
+use Rattle.phone_cli.specs.Commands.{GivesObjects, GivesWithInput, GivesWritten, Reports, Tables}
 use Rattle.phone_cli.specs.Commands.{found_form, no_first_lines}
 use Rattle.phone_cli.specs.Operands.{files_of, has_reader, region_and_files, region_of}
 use Rattle.phone_cli.specs.Operands.{IsApart, shorts_of}
 use Rattle.phone_cli.specs.Statuses.{status_of}
 use Rattle.phone_cli.specs.Streams.{Streams}
 use Rattle.phone_cli.proofs.AnswerLemmas.{FinderBegins, FinderGives, ObjectsGive}
-use Rattle.phone_cli.proofs.AnswerLemmas.{ReportGives, ShortsGive, TypistGives, WithInputGives, finding, found_by}
-use Rattle.phone_cli.proofs.AnswerLemmas.{objects_by, report_by, short_by, typed_by, with_input_by}
+use Rattle.phone_cli.proofs.AnswerLemmas.{ReportGives, ShortsGive, TypistGives, WithInputGives, WrittenGives, finding, found_by}
+use Rattle.phone_cli.proofs.AnswerLemmas.{objects_by, report_by, short_by, typed_by, with_input_by, written_by}
 
 -- a command that finds numbers
 pub finds_by : (is : Command) → (is ≡ command.Find) ⊎
@@ -55,20 +57,22 @@ finds_by is (inr (inr e)) = ap finds e
 -- a command that reads by an engine, and is no other such, is the report
 pub is_report : (is : Command) → has_reader is ≡ true → ¬ (is ≡ command.Objects) →
     ¬ (is ≡ command.Find) → ¬ (is ≡ command.FoundObjects) → ¬ (is ≡ command.FoundRecords) →
-    ¬ (is ≡ command.Typed) → ¬ (is ≡ command.Table) → ¬ (is ≡ command.ReportWithInput) → is ≡ command.Report
-is_report command.Report r o f fo fr t ta w = refl
-is_report command.Objects r o f fo fr t ta w = absurd (o refl)
-is_report command.Find r o f fo fr t ta w = absurd (f refl)
-is_report command.FoundObjects r o f fo fr t ta w = absurd (fo refl)
-is_report command.FoundRecords r o f fo fr t ta w = absurd (fr refl)
-is_report command.Typed r o f fo fr t ta w = absurd (t refl)
-is_report command.Table r o f fo fr t ta w = absurd (ta refl)
-is_report command.ReportWithInput r o f fo fr t ta w = absurd (w refl)
-is_report command.Help r o f fo fr t ta w = absurd (cc)
-is_report command.Version r o f fo fr t ta w = absurd (cc)
-is_report command.Regions r o f fo fr t ta w = absurd (cc)
-is_report command.Unique r o f fo fr t ta w = absurd (cc)
-is_report command.Short r o f fo fr t ta w = absurd (cc)
+    ¬ (is ≡ command.Typed) → ¬ (is ≡ command.Table) → ¬ (is ≡ command.ReportWithInput) →
+    ((form : Form) → ¬ (is ≡ command.Written form)) → is ≡ command.Report
+is_report command.Report r o f fo fr t ta w wr = refl
+is_report command.Objects r o f fo fr t ta w wr = absurd (o refl)
+is_report command.Find r o f fo fr t ta w wr = absurd (f refl)
+is_report command.FoundObjects r o f fo fr t ta w wr = absurd (fo refl)
+is_report command.FoundRecords r o f fo fr t ta w wr = absurd (fr refl)
+is_report command.Typed r o f fo fr t ta w wr = absurd (t refl)
+is_report command.Table r o f fo fr t ta w wr = absurd (ta refl)
+is_report command.ReportWithInput r o f fo fr t ta w wr = absurd (w refl)
+is_report command.Help r o f fo fr t ta w wr = absurd (cc)
+is_report command.Version r o f fo fr t ta w wr = absurd (cc)
+is_report command.Regions r o f fo fr t ta w wr = absurd (cc)
+is_report command.Unique r o f fo fr t ta w wr = absurd (cc)
+is_report command.Short r o f fo fr t ta w wr = absurd (cc)
+is_report (command.Written form) r o f fo fr t ta w wr = absurd (wr form refl)
 
 -- a command that tells nothing of the program reads numbers
 pub reads_by : (is : Command) → ¬ (is ≡ command.Help) → ¬ (is ≡ command.Version) →
@@ -86,6 +90,7 @@ reads_by command.Typed h v r = refl
 reads_by command.Table h v r = refl
 reads_by command.Unique h v r = refl
 reads_by command.Short h v r = refl
+reads_by (command.Written form) h v r = refl
 
 -- what a call does that reads numbers, under the region and from the files that it names
 pub by_operands : (c : Call) (hint : Option Id) (files : List Name) (before after : Streams)
@@ -128,6 +133,23 @@ with_input_runs c hint files w before after last end is rules under act =
     with_input db is
     (subst (λ x. AnswersInputs (ActsIn c.encoding
     (TakesLines begins_with_nothing (GivesWithInput c.rules db x))) files tt before after tt
+    end) under by_rules)
+
+-- numbers in a format
+pub written_runs : (c : Call) (hint : Option Id) (files : List Name) (w : Written)
+    (before after : Devices) (last : Written) (end : Result ⊤ Failure) →
+    c.command ≡ command.Written w.form → w.engine.rules ≡ c.rules → w.engine.hint ≡ hint →
+    AnswersInputs (ActsIn c.encoding (TakesLines begins_with_nothing WrittenGives)) files w
+    before after last end → Runs c hint files before after end
+written_runs c hint files w before after last end is rules under act =
+    let db = w.engine.database.now in
+    let own = written_by c.encoding files w before after last end act in
+    let by_rules = subst (λ x. AnswersInputs (ActsIn c.encoding
+    (TakesLines begins_with_nothing (GivesWritten x db w.engine.hint w.form))) files tt before
+    after tt end) rules own in
+    written db w.form is
+    (subst (λ x. AnswersInputs (ActsIn c.encoding
+    (TakesLines begins_with_nothing (GivesWritten c.rules db x w.form))) files tt before after tt
     end) under by_rules)
 
 -- objects
@@ -296,3 +318,4 @@ finds_no_table command.Version f = absurd (cc)
 finds_no_table command.Regions f = absurd (cc)
 finds_no_table command.Unique f = absurd (cc)
 finds_no_table command.Short f = absurd (cc)
+finds_no_table (command.Written form) f = absurd (cc)

@@ -30,10 +30,11 @@ use Rattle.phone_words.specs.declared.call.Call.{Call}
 use Rattle.phone_words.specs.declared.command.Command.{Command}
 use Rattle.phone_words.specs.declared.command.Command.TheVariants as command
 use Rattle.phone_words.specs.declared.table.Table.{Table}
+use Rattle.phone_words.specs.declared.values.Form.{Form}
 use Rattle.phone_cli.specs.Abouts.{Tells, regions_text, version_text}
 use Rattle.phone_cli.specs.Commands.{AnswersInputs, BeginsFound, Finding, Tables}
 use Rattle.phone_cli.specs.Commands.{GivesFound, GivesObjects, GivesShorts, GivesTyped}
-use Rattle.phone_cli.specs.Commands.{GivesWithInput, Reports}
+use Rattle.phone_cli.specs.Commands.{GivesWithInput, GivesWritten, Reports}
 use Rattle.phone_cli.specs.Commands.{found_form, leniency_of, no_first_lines}
 use Rattle.phone_cli.specs.Operands.{IsApart, alternates_of, database_of, files_of}
 use Rattle.phone_cli.specs.Operands.{ignores_words, is_misfit}
@@ -103,6 +104,10 @@ pub data Runs (c : Call) (hint : Option Id) (files : List Name) (before after : 
   with_input : (db : List Metadata) → c.command ≡ command.ReportWithInput →
       AnswersInputs (ActsIn c.encoding
       (TakesLines begins_with_nothing (GivesWithInput c.rules db hint))) files tt
+      before after tt end → Runs c hint files before after end
+  written : (db : List Metadata) → (form : Form) → c.command ≡ command.Written form →
+      AnswersInputs (ActsIn c.encoding
+      (TakesLines begins_with_nothing (GivesWritten c.rules db hint form))) files tt
       before after tt end → Runs c hint files before after end
   objects : (db : List Metadata) → (short : Option (List Metadata)) → (last : ℕ) →
       c.command ≡ command.Objects → IsLoaded (shorts_of c) short →

@@ -8,6 +8,7 @@ use Rattle.phone_commands.specs.ShortLines.{IsShortLine}
 use Rattle.phone_commands.specs.TableJobs.{AnswersTable}
 use Rattle.phone_commands.specs.TypedLines.{typed_line}
 use Rattle.phone_commands.specs.WithInputs.{IsWithInput}
+use Rattle.phone_commands.specs.WrittenLines.{IsWrittenLine}
 use Rattle.phone_commands.specs.declared.finder.FoundForm.{FoundForm}
 use Rattle.phone_commands.specs.declared.finder.FoundForm.TheVariants as form
 use Rattle.phone_commands.specs.declared.finder.Matching.{Matching}
@@ -26,6 +27,7 @@ use Rattle.phone_values.specs.declared.country.Id.{Id}
 use Rattle.phone_values.specs.declared.rules.Rules.{Rules}
 use Rattle.phone_words.specs.declared.command.Command.{Command}
 use Rattle.phone_words.specs.declared.command.Command.TheVariants as command
+use Rattle.phone_words.specs.declared.values.Form.{Form}
 use Rattle.phone_words.specs.declared.values.Level.{Level}
 use Rattle.phone_words.specs.declared.values.Level.TheVariants as level
 
@@ -48,6 +50,10 @@ Reports rules db hint =
 -- `--with-input`: the same, each with the line
 abbrev pub GivesWithInput : Rules → List Metadata → Option Id → Gives ⊤
 GivesWithInput rules db hint = each_by_itself (λ _. IsWithInput rules db hint)
+
+-- `--format`: each line's number in a format, by itself
+abbrev pub GivesWritten : Rules → List Metadata → Option Id → Form → Gives ⊤
+GivesWritten rules db hint form = each_by_itself (λ _. IsWrittenLine rules db hint form)
 
 -- `--json`: the object of each line; what is kept is the number of the next line
 abbrev pub GivesObjects : Rules → List Metadata → Option (List Metadata) → Option Id → Gives ℕ

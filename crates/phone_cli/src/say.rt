@@ -77,6 +77,10 @@ const ENCODING: &str = " names no encoding: there are utf-8, utf-16, utf-16le, u
 const LENIENCY: &str = " names no leniency: there are possible, valid, strict-grouping and \
     exact-grouping";
 
+/// What is told behind a word that names no format.
+const FORMAT: &str = " names no format: there are e164, international, national, rfc3966, \
+    original and mobile";
+
 /// What is told behind a mode that goes with libphonenumber's rules alone.
 const LIBRARY: &str = " knows libphonenumber's rules alone";
 
@@ -99,6 +103,7 @@ fn say_why<E: ByteSink>(errors: &mut E, why: Why, word: &str, other: &str, value
         Why::Rules => say(errors, &[word, RULES], 2),
         Why::Encoding => say(errors, &[word, ENCODING], 2),
         Why::Leniency => say(errors, &[word, LENIENCY], 2),
+        Why::Format => say(errors, &[word, FORMAT], 2),
         Why::LibraryAlone => say(errors, &[word, LIBRARY], 2),
         Why::Memory => say(errors, &["out of memory"], 1),
     }

@@ -36,7 +36,7 @@ use crate::summing::{say_stray_records, sum_up};
 use crate::written::{is_read, taken_summary};
 use phone_commands::{
     ByLines, Customers, Encoded, FirstLines, Job, LineTaker, Loaded, Reader, Report, Shorts, Tally,
-    Typist, WithInput, countries_in, on_inputs,
+    Typist, WithInput, Written, countries_in, on_inputs,
 };
 use phone_device::{ByteSink, Fault, Std};
 use phone_encodings::Inlet;
@@ -526,6 +526,11 @@ fn by_reader<R: Files + AllocGlobal, S: Inlet, W: Outlet, E: ByteSink>(
         }
         Command::Typed => {
             let mut taker = Typist::new(reader.engine.database, reader.engine.hint);
+            run_lines(rt, reading, &mut taker, input, output, errors)
+        }
+        Command::Written(form) => {
+            let engine = reader.engine;
+            let mut taker = Written { engine, form };
             run_lines(rt, reading, &mut taker, input, output, errors)
         }
         Command::Table => customers(rt, reading, reader, input, output, errors),

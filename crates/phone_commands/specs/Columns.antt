@@ -6,9 +6,10 @@ use Rattle.phone_commands.specs.declared.columns.Wanted.{Wanted}
 use Rattle.phone_maps.specs.declared.maps.Owner.TheVariants as owner
 use Rattle.phone_answers.specs.declared.extra.Extra.{Extra}
 use Rattle.phone_answers.specs.declared.extra.Told.{Told}
-use Rattle.phone_answers.specs.declared.extra.Told.TheVariants.{Area, CallingCode, Carrier}
-use Rattle.phone_answers.specs.declared.extra.Told.TheVariants.{Doubts, Extension, NationalNumber}
+use Rattle.phone_answers.specs.declared.extra.Told.TheVariants.{Area, Carrier, Doubts, Part}
 use Rattle.phone_answers.specs.declared.extra.Told.TheVariants.{Prefix, Split, TimeZones}
+use Rattle.phone_answers.specs.declared.parts.Part.TheVariants.{AreaCode, CallingCode, Extension}
+use Rattle.phone_answers.specs.declared.parts.Part.TheVariants.{NationalNumber, Possibility}
 use Rattle.phone_answers.specs.declared.split.Shown.TheVariants.{E164, Kind, Region}
 use Rattle.phone_answers.specs.declared.split.Which.{Which}
 use Rattle.phone_answers.specs.declared.split.Which.TheVariants.{First, Second}
@@ -42,10 +43,12 @@ tables_for f =
 -- those of parts of the number, and what is suspicious
 abbrev pub parts_for : Further → List Column
 parts_for f =
-    part_if (codes "extension") Extension f.extension ++
-    (part_if (codes "calling_code") CallingCode f.calling_code ++
-    (part_if (codes "national_number") NationalNumber f.national_number ++
-    part_if (codes "suspicion") Doubts f.suspicion))
+    part_if (codes "extension") (Part Extension) f.extension ++
+    (part_if (codes "calling_code") (Part CallingCode) f.calling_code ++
+    (part_if (codes "national_number") (Part NationalNumber) f.national_number ++
+    (part_if (codes "possibility") (Part Possibility) f.possibility ++
+    (part_if (codes "area_code") (Part AreaCode) f.area_code ++
+    part_if (codes "suspicion") Doubts f.suspicion))))
 
 -- those of one of the two numbers in a field that has two: its E.164 text, type and region, under
 -- these names

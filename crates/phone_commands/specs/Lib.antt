@@ -11,3 +11,4 @@ pub mod Strays
 pub mod TableJobs
 pub mod TypedLines
 pub mod WithInputs
+pub mod WrittenLines

@@ -13,7 +13,7 @@ use phone_device::{ByteSource, MemorySink, Std};
 use phone_languages::Locale;
 use phone_lines::{RunError, take_lines};
 use phone_prefixes::{Prefixes, PrefixesError};
-use phone_table::{Extra, Owner, Shown, Told, Which};
+use phone_table::{Extra, Owner, Part, Shown, Told, Which};
 use phone_words::Further;
 use std::alloc::{AllocError, AllocGlobal, Global};
 use std::fs::{self, Files};
@@ -85,20 +85,22 @@ fn push_tables<'w>(columns: &mut Vec<Wanted<'w>>, further: Further<'w>) -> Resul
 }
 
 /// Puts those of parts of the number at the end of others, in their order: `extension`,
-/// `calling_code`, `national_number`; then `suspicion`. Refused only for memory.
+/// `calling_code`, `national_number`, `possibility`, `area_code`; then `suspicion`. Refused only
+/// for memory.
 fn push_parts<'w>(columns: &mut Vec<Wanted<'w>>, further: Further<'w>) -> Result<(), AllocError>
     ensures { OnOk result (wanted columns.new.items ≡
         wanted columns.old.items ++ parts_for further.entry) }
 {
-    push_part(columns, "extension", Told::Extension, further.extension)?;
-    push_part(
-        columns,
-        "calling_code",
-        Told::CallingCode,
-        further.calling_code,
-    )?;
-    let is_asked = further.national_number;
-    push_part(columns, "national_number", Told::NationalNumber, is_asked)?;
+    let (part, is_asked) = (Told::Part(Part::Extension), further.extension);
+    push_part(columns, "extension", part, is_asked)?;
+    let (part, is_asked) = (Told::Part(Part::CallingCode), further.calling_code);
+    push_part(columns, "calling_code", part, is_asked)?;
+    let (part, is_asked) = (Told::Part(Part::NationalNumber), further.national_number);
+    push_part(columns, "national_number", part, is_asked)?;
+    let (part, is_asked) = (Told::Part(Part::Possibility), further.possibility);
+    push_part(columns, "possibility", part, is_asked)?;
+    let (part, is_asked) = (Told::Part(Part::AreaCode), further.area_code);
+    push_part(columns, "area_code", part, is_asked)?;
     push_part(columns, "suspicion", Told::Doubts, further.suspicion)
 }
 

@@ -1,6 +1,6 @@
 //! What a call of `./phone` does with its inputs, files or standard input, one after the other: the
 //! report on lines, a table, or lines that are taken one by one: for the numbers in them, as keys,
-//! as numbers that are dialled, as JSON objects, or for the first line of each number.
+//! as numbers that are dialled, as JSON objects, in a format, or for the first line of each number.
 #![tactic(auto)]
 
 mod columns;
@@ -18,6 +18,7 @@ mod takers;
 mod text;
 mod typist;
 mod with_input;
+mod written;
 
 pub use columns::{Loaded, LoadedColumn, NoColumns};
 pub use countries::countries_in;
@@ -33,3 +34,4 @@ pub use strays::{LinePlace, Strays, Tally};
 pub use takers::{FirstLines, Objects};
 pub use typist::Typist;
 pub use with_input::WithInput;
+pub use written::Written;

@@ -1,10 +1,10 @@
 -- The text of a number by layouts that are handed in: after `formatByPattern` of libphonenumber.
-use Rattle.std.specs.Prelude.{ℕ, if◌then◌else◌, List, [], ◌∷◌, ◌++◌, chars, codes, encode_utf8_all}
-use Rattle.std.specs.Prelude.{is_some, Option, None, Some}
+use Rattle.std.specs.Prelude.{ℕ, ◌==◌, ◌&&◌, Bool, if◌then◌else◌, List, [], ◌∷◌, ◌++◌, chars, codes}
+use Rattle.std.specs.Prelude.{encode_utf8_all, is_some, Option, None, Some}
 use Rattle.std.specs.Fmt.{decimal}
 use Rattle.std.specs.List.{find}
 use Rattle.std.specs.Option.{option_and_then, option_map_or}
-use Rattle.phone_chars.specs.Characters.{is_separator}
+use Rattle.phone_chars.specs.Characters.{is_digit, is_separator}
 use Rattle.phone_chars.specs.Cuts.{after_front}
 use Rattle.phone_values.specs.Numbers.{text_of}
 use Rattle.phone_values.specs.declared.mode.Mode.{Mode}
@@ -32,10 +32,34 @@ own_template m E164 f = layout_template f
 own_template m International f = layout_template f
 own_template m Rfc3966 f = layout_template f
 
+-- a character of a template that stands for itself: of two dollar signs one is written
+abbrev pub literal : ℕ → List ℕ
+literal c = if c == 36 then 36 ∷ 36 ∷ [] else c ∷ []
+
+-- two characters of a template name a group: a dollar sign and a digit
+abbrev pub names_group : ℕ → ℕ → Bool
+names_group c d = (c == 36) && is_digit d
+
+-- the name of a group in braces, which end it
+abbrev pub in_braces : ℕ → List ℕ
+in_braces d = 36 ∷ 123 ∷ d ∷ 125 ∷ []
+
+-- a template whose groups are named by a dollar sign and one digit, whatever stands behind: `${2}x`
+-- for `$2x`; each other character stands for itself
+abbrev pub braced : List ℕ → List ℕ
+braced [] = []
+braced (c ∷ []) = literal c
+braced (c ∷ d ∷ rest) = if names_group c d then in_braces d ++ braced rest
+    else literal c ++ braced (d ∷ rest)
+
+-- digits laid out by a layout and a template of such groups
+abbrev pub laid_by_digits : Format → List ℕ → List ℕ → List ℕ
+laid_by_digits f template digits = laid_by f (encode_utf8_all (braced (chars template))) digits
+
 -- digits laid out by the first of the layouts that is theirs; as they are without one
 abbrev pub own_laid : Metadata → Mode → Option Format → List ℕ → List ℕ
 own_laid m mode None digits = digits
-own_laid m mode (Some f) digits = laid_by f (own_template m mode f) digits
+own_laid m mode (Some f) digits = laid_by_digits f (own_template m mode f) digits
 
 -- digits that are laid out, with no separator in front, each other run of separators one hyphen
 abbrev pub with_hyphens : List ℕ → List ℕ

@@ -1,7 +1,7 @@
 -- Short numbers of a calling code, of which no region is told: as libphonenumber has them. One
 -- database lists the territories of the code, another the short numbers of their regions.
 use Rattle.std.specs.Prelude.{ℕ, ◌&&◌, Bool, true, false, if◌then◌else◌, List, [], ◌∷◌}
-use Rattle.std.specs.Prelude.{chars, is_some, Option, None, Some}
+use Rattle.std.specs.Prelude.{chars, is_some, map, Option, None, Some}
 use Rattle.std.specs.List.{find, list_any}
 use Rattle.std.specs.Option.{option_and_then, option_map_or}
 use Rattle.phone_values.specs.Ids.{id_of}
@@ -16,6 +16,7 @@ use Rattle.phone_short.specs.Regions.{cost, is_possible_short, record_of}
 use Rattle.phone_short.specs.declared.rates.Cost.{Cost}
 use Rattle.phone_short.specs.declared.rates.Cost.TheVariants.{PremiumRate, StandardRate, TollFree}
 use Rattle.phone_short.specs.declared.rates.Cost.TheVariants.{Unknown}
+use Rattle.phone_dialling.specs.declared.short_numbers.FactsAnywhere.{FactsAnywhere}
 
 -- the region of a territory
 abbrev pub region_of : Metadata → Option Id
@@ -88,23 +89,36 @@ is_one_cost TollFree TollFree = true
 is_one_cost Unknown Unknown = true
 is_one_cost a b = false
 
--- a cost is that of digits in some territory's region
-abbrev pub is_cost_of : List Metadata → List ℕ → List Metadata → Cost → Bool
-is_cost_of short digits ms c = list_any (λ m. is_one_cost c (cost_in short digits m)) ms
-
--- what digits cost where the region isn't told: the first that they cost anywhere of premium rate,
--- an unknown cost, standard rate and nothing
-abbrev pub dearest : List Metadata → List ℕ → List Metadata → Cost
-dearest short digits ms =
-    if is_cost_of short digits ms PremiumRate then PremiumRate
-    else if is_cost_of short digits ms Unknown then Unknown
-    else if is_cost_of short digits ms StandardRate then StandardRate
-    else if is_cost_of short digits ms TollFree then TollFree
+-- of costs the first there is of premium rate, an unknown cost, standard rate and nothing
+abbrev pub dearest_of : List Cost → Cost
+dearest_of costs =
+    if list_any (is_one_cost PremiumRate) costs then PremiumRate
+    else if list_any (is_one_cost Unknown) costs then Unknown
+    else if list_any (is_one_cost StandardRate) costs then StandardRate
+    else if list_any (is_one_cost TollFree) costs then TollFree
     else Unknown
+
+-- what digits cost where the region isn't told: of what they cost in the territories' regions
+abbrev pub dearest : List Metadata → List ℕ → List Metadata → Cost
+dearest short digits ms = dearest_of (map (cost_in short digits) ms)
 
 -- what a number costs
 abbrev pub cost_anywhere : (db short : List Metadata) → Reading → Cost
 cost_anywhere db short n = dearest short (text_of n.national) (territories n.code.value db)
+
+-- all that is known of digits, by the territories of their code
+abbrev pub facts_of : List Metadata → List ℕ → List Metadata → FactsAnywhere
+facts_of short digits ms = record {
+  cost = dearest short digits ms;
+  is_possible = list_any (is_possible_in short digits) ms;
+  is_valid = is_valid_of short digits ms;
+  is_carrier_specific = option_map_or (is_carrier_in short digits) (chosen_of short digits ms)
+      false;
+}
+
+-- the same of a number
+abbrev pub facts_anywhere : (db short : List Metadata) → Reading → FactsAnywhere
+facts_anywhere db short n = facts_of short (text_of n.national) (territories n.code.value db)
 
 -- the example of a descriptor
 abbrev pub example_of : Option Descriptor → Option (List ℕ)

@@ -16,7 +16,7 @@ pub use mobile::{MobileWay, mobile_text};
 pub use original::{first_layout, original_text, with_extension};
 pub use own_layouts::text_by_layouts;
 pub use short_numbers::{
-    cost_anywhere, cost_in, dearest, is_carrier_anywhere, is_possible_anywhere, is_valid_anywhere,
-    short_example, short_example_of_cost,
+    FactsAnywhere, cost_anywhere, cost_in, dearest_of, facts_anywhere, is_carrier_anywhere,
+    is_possible_anywhere, is_valid_anywhere, short_example, short_example_of_cost,
 };
 pub use texts::text_in;

@@ -1,18 +1,20 @@
 //! The text of a number by layouts that are handed in.
-ghost use Rattle.std.specs.Prelude.{◌≡◌, ◌++◌, ◌∷◌, IfOk, chars, codes, encode_utf8_all};
-ghost use Rattle.std.specs.Prelude.{Some, is_some, string_bytes};
+ghost use Rattle.std.specs.Prelude.{◌≡◌, ◌<◌, ◌++◌, ◌∷◌, IfOk, IfSome, MatchOption, None, OnOk};
+ghost use Rattle.std.specs.Prelude.{Some, chars, codes, encode_utf8_all, is_some, length};
+ghost use Rattle.std.specs.Prelude.{string_bytes};
 ghost use Rattle.std.specs.Fmt.{decimal};
 ghost use Rattle.std.specs.Option.{option_and_then, option_copied};
 ghost use Rattle.phone_chars.specs.Characters.{is_separator};
 ghost use Rattle.phone_chars.specs.Cuts.{after_front};
 ghost use Rattle.phone_dialling.specs.Abroad.{if_some};
-ghost use Rattle.phone_dialling.specs.OwnLayouts.{assembled, home_template, own_laid};
+ghost use Rattle.phone_dialling.specs.OwnLayouts.{assembled, braced, home_template, in_braces};
+ghost use Rattle.phone_dialling.specs.OwnLayouts.{laid_by_digits, literal, names_group, own_laid};
 ghost use Rattle.phone_dialling.specs.OwnLayouts.{own_template, text_by_layouts, text_by_own};
 ghost use Rattle.phone_dialling.specs.OwnLayouts.{with_hyphens};
 ghost use Rattle.phone_parts.specs.Texts.{begins};
 ghost use Rattle.phone_print.specs.Texts.{extension_parameter, hyphenated};
 ghost use Rattle.phone_questions.specs.Matches.{extension_told};
-ghost use Rattle.phone_territory.specs.Layouts.{laid_by};
+ghost use Rattle.phone_territory.specs.Layouts.{national_template};
 
 use crate::original::{first_layout, with_extension};
 use phone_chars::chars::is_separator;
@@ -86,29 +88,124 @@ fn laid_by(
     digits: &str,
 ) -> Result<String, AllocError>
     ensures { IfOk result (λ t. string_bytes t ≡
-        laid_by layout.now (own_template m.now mode layout.now) digits.now) }
+        laid_by_digits layout.now (own_template m.now mode layout.now) digits.now) }
+{
+    let template = own_template(finder, m, mode, layout)?;
+    let template = braced(m.allocator(), template.as_str())?;
+    layout.whole_pattern().replace(template.as_str(), digits)
+}
+
+/// The template of a layout in a mode. Refused only for memory.
+fn own_template(
+    finder: &FirstGroup,
+    m: &Territory,
+    mode: Mode,
+    layout: &Format,
+) -> Result<String, AllocError>
+    ensures { IfOk result (λ t. string_bytes t ≡ own_template m.now mode layout.now) }
 {
     match mode {
-        Mode::National => laid_at_home(finder, m, layout, digits),
-        _ => layout.lay_out(digits),
+        Mode::National => home_template(finder, m, layout),
+        _ => String::from_str(m.allocator(), layout.format()),
     }
 }
 
-/// Digits laid out for callers inside the country. Refused only for memory.
-fn laid_at_home(
-    finder: &FirstGroup,
-    m: &Territory,
-    layout: &Format,
-    digits: &str,
-) -> Result<String, AllocError>
-    ensures { IfOk result (λ t. string_bytes t ≡
-        laid_by layout.now (home_template m.now layout.now) digits.now) }
+/// The template of national text. Refused only for memory.
+fn home_template(finder: &FirstGroup, m: &Territory, layout: &Format) -> Result<String, AllocError>
+    ensures { IfOk result (λ t. string_bytes t ≡ home_template m.now layout.now) }
 {
     if has_prefix(m) {
-        layout.lay_out_nationally(finder, m.national_prefix(), None, digits)
+        ruled_template(m.allocator(), finder, layout, m.national_prefix())
     } else {
-        layout.lay_out(digits)
+        String::from_str(m.allocator(), layout.format())
     }
+}
+
+/// The template of national text behind this national prefix, by the layout's rule. Refused only
+/// for memory.
+fn ruled_template(
+    alloc: Global,
+    finder: &FirstGroup,
+    layout: &Format,
+    prefix: Option<&str>,
+) -> Result<String, AllocError>
+    ensures { IfOk result (λ t. string_bytes t ≡
+        national_template layout.now (option_copied prefix.entry) None) }
+{
+    match layout.national_prefix() {
+        Some(rule) => finder.apply_rule(layout.format(), rule, prefix.unwrap_or(""), ""),
+        None => String::from_str(alloc, layout.format()),
+    }
+}
+
+/// A template, each of whose groups is named by a dollar sign and one digit, with these digits in
+/// braces and each other dollar sign doubled. Refused only for memory.
+fn braced(alloc: Global, template: &str) -> Result<String, AllocError>
+    ensures { IfOk result (λ t. string_bytes t ≡
+        encode_utf8_all (braced (chars template.now))) }
+{
+    let mut out = String::new(alloc);
+    let mut rest = template;
+    while let Some((c, after)) = split_first(rest) {
+        if let Some((digit, behind)) = named_group(c, after) {
+            push_group(&mut out, digit)?;
+            rest = behind;
+        } else {
+            push_literal(&mut out, c)?;
+            rest = after;
+        }
+    }
+    Ok(out)
+}
+
+/// Appends the name of a group, in braces. Refused only for memory.
+fn push_group(out: &mut String, digit: char) -> Result<(), AllocError>
+    ensures { OnOk result
+        (string_bytes out.new ≡ string_bytes out.old ++ encode_utf8_all (in_braces digit)) }
+{
+    out.push_str("${")?;
+    out.push(digit)?;
+    out.push('}')
+}
+
+/// Appends a character that stands for itself in a template: a dollar sign doubled. Refused only
+/// for memory.
+fn push_literal(out: &mut String, c: char) -> Result<(), AllocError>
+    ensures { OnOk result
+        (string_bytes out.new ≡ string_bytes out.old ++ encode_utf8_all (literal c)) }
+{
+    if c == '$' {
+        out.push_str("$$")
+    } else {
+        out.push(c)
+    }
+}
+
+/// The digit of the group that a character names with the first behind it, and what follows.
+#[tactic(auto, using(crate::proofs::Templates::template_steps))]
+fn named_group(c: char, after: &str) -> Option<(char, &str)>
+    ensures group { MatchOption result
+        (braced (c ∷ chars after.entry.now) ≡ literal c ++ braced (chars after.entry.now))
+        (λ p. braced (c ∷ chars after.entry.now) ≡ in_braces p.0 ++ braced (chars p.1.now)) }
+    ensures shorter { IfSome result (λ p. length p.1.now < length after.entry.now) }
+{
+    match split_first(after) {
+        Some((digit, behind)) => {
+            if names_group(c, digit) {
+                Some((digit, behind))
+            } else {
+                None
+            }
+        }
+        None => None,
+    }
+}
+
+/// Whether two characters name a group.
+fn names_group(c: char, digit: char) -> bool
+    ensures { result ≡ names_group c digit }
+{
+    c == '$' && digit.is_ascii_digit()
 }
 
 /// Whether a territory has a national prefix that isn't empty.

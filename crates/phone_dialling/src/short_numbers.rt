@@ -1,12 +1,12 @@
 //! Short numbers of a calling code, of which no region is told.
-ghost use Rattle.std.specs.Prelude.{◌≡◌, IfOk, Some, false, is_some, map};
+ghost use Rattle.std.specs.Prelude.{◌≡◌, IfOk, Some, false, map};
 ghost use Rattle.std.specs.Borrow.{Bor};
 ghost use Rattle.std.specs.List.{find, list_any};
 ghost use Rattle.std.specs.Option.{option_copied, option_map_or};
 ghost use Rattle.phone_dialling.specs.ShortNumbers.{chosen_of, cost_anywhere, cost_in, dearest};
-ghost use Rattle.phone_dialling.specs.ShortNumbers.{example_of, has_short_code};
-ghost use Rattle.phone_dialling.specs.ShortNumbers.{is_carrier_anywhere, is_carrier_in};
-ghost use Rattle.phone_dialling.specs.ShortNumbers.{is_code_in, is_cost_of, is_one_cost};
+ghost use Rattle.phone_dialling.specs.ShortNumbers.{dearest_of, example_of, facts_anywhere};
+ghost use Rattle.phone_dialling.specs.ShortNumbers.{facts_of, is_carrier_anywhere};
+ghost use Rattle.phone_dialling.specs.ShortNumbers.{is_carrier_in, is_code_in, is_one_cost};
 ghost use Rattle.phone_dialling.specs.ShortNumbers.{is_possible_anywhere, is_possible_in};
 ghost use Rattle.phone_dialling.specs.ShortNumbers.{is_valid_anywhere, is_valid_by, is_valid_of};
 ghost use Rattle.phone_dialling.specs.ShortNumbers.{numbers_of_cost, short_example};
@@ -19,6 +19,19 @@ use phone_short::{Cost, cost, is_possible_short};
 use phone_values::country::Id;
 use phonenumber::PhoneNumber;
 use std::alloc::AllocError;
+
+/// What is known of a number as a short number of any region of its calling code.
+#[derive(Clone, Copy, PartialEq, Eq, Debug)]
+pub struct FactsAnywhere {
+    /// What a call of it costs.
+    pub cost: Cost,
+    /// Whether the count of its digits is possible in some region.
+    pub is_possible: bool,
+    /// Whether it is a short number of some region.
+    pub is_valid: bool,
+    /// Whether only some carriers connect it.
+    pub is_carrier_specific: bool,
+}
 
 /// Whether a number may be a short number of some region of its calling code: the region's table of
 /// short numbers lists the count of its digits. Refused only for memory.
@@ -83,21 +96,27 @@ fn is_valid_of(short: &Plans, digits: &str, found: &[&Territory]) -> Result<bool
     ensures { IfOk result (λ b. b ≡ is_valid_of short.now digits.now
         (map (λ (m : Bor loader.Metadata). m.now) found.now)) }
 {
+    let chosen = chosen_of(short, digits, found)?;
+    is_valid_by_chosen(short, digits, found, chosen)
+}
+
+/// The same, where the territory is known that is chosen of them. Refused only for memory.
+fn is_valid_by_chosen(
+    short: &Plans,
+    digits: &str,
+    found: &[&Territory],
+    chosen: Option<&Territory>,
+) -> Result<bool, AllocError>
+    requires { option_copied chosen ≡ chosen_of short.now digits.now
+        (map (λ (m : Bor loader.Metadata). m.now) found.now) }
+    ensures { IfOk result (λ b. b ≡ is_valid_of short.now digits.now
+        (map (λ (m : Bor loader.Metadata). m.now) found.now)) }
+{
     match found {
         [] => Ok(false),
         [only] => is_valid_in(short, digits, only),
-        several => is_code_of(short, digits, several),
+        _ => Ok(chosen.is_some()),
     }
-}
-
-/// Whether digits are a short code of the region of one of these territories. Refused only for
-/// memory.
-fn is_code_of(short: &Plans, digits: &str, found: &[&Territory]) -> Result<bool, AllocError>
-    ensures { IfOk result (λ b. b ≡ is_some (find (is_code_in short.now digits.now)
-        (map (λ (m : Bor loader.Metadata). m.now) found.now))) }
-{
-    let first = first_code_in(short, digits, found)?;
-    Ok(first.is_some())
 }
 
 /// Whether digits are a number and a short code of a territory's region. Refused only for memory.
@@ -201,7 +220,20 @@ fn is_carrier_of(short: &Plans, digits: &str, found: &[&Territory]) -> Result<bo
         (chosen_of short.now digits.now (map (λ (m : Bor loader.Metadata). m.now) found.now))
         false) }
 {
-    match chosen_of(short, digits, found)? {
+    let chosen = chosen_of(short, digits, found)?;
+    is_carrier_by_chosen(short, digits, chosen)
+}
+
+/// The same by the territory that is chosen, if one is. Refused only for memory.
+fn is_carrier_by_chosen(
+    short: &Plans,
+    digits: &str,
+    chosen: Option<&Territory>,
+) -> Result<bool, AllocError>
+    ensures { IfOk result (λ b. b ≡ option_map_or (is_carrier_in short.now digits.now)
+        (option_copied chosen.entry) false) }
+{
+    match chosen {
         Some(chosen) => is_carrier_in(short, digits, chosen),
         None => Ok(false),
     }
@@ -251,43 +283,51 @@ pub fn cost_anywhere(
 }
 
 /// What digits cost in the regions of these territories: the first there is of premium rate, an
-/// unknown cost, standard rate and nothing; unknown without a territory. Refused only for memory.
-pub fn dearest(short: &Plans, digits: &str, found: &[&Territory]) -> Result<Cost, AllocError>
+/// unknown cost, standard rate and nothing; unknown without a territory. Each region is asked once.
+/// Refused only for memory.
+fn dearest(short: &Plans, digits: &str, found: &[&Territory]) -> Result<Cost, AllocError>
     ensures { IfOk result (λ c. c ≡ dearest short.now digits.now
         (map (λ (m : Bor loader.Metadata). m.now) found.now)) }
 {
-    if is_cost_of(short, digits, found, Cost::PremiumRate)? {
-        return Ok(Cost::PremiumRate);
-    }
-    if is_cost_of(short, digits, found, Cost::Unknown)? {
-        return Ok(Cost::Unknown);
-    }
-    if is_cost_of(short, digits, found, Cost::StandardRate)? {
-        return Ok(Cost::StandardRate);
-    }
-    if is_cost_of(short, digits, found, Cost::TollFree)? {
-        return Ok(Cost::TollFree);
-    }
-    Ok(Cost::Unknown)
+    let costs = costs_in(short, digits, found)?;
+    Ok(dearest_of(costs.as_slice()))
 }
 
-/// Whether a cost is that of digits in the region of one of these territories. Refused only for
-/// memory.
-fn is_cost_of(
-    short: &Plans,
-    digits: &str,
-    found: &[&Territory],
-    wanted: Cost,
-) -> Result<bool, AllocError>
-    ensures { IfOk result (λ b. b ≡ is_cost_of short.now digits.now
-        (map (λ (m : Bor loader.Metadata). m.now) found.now) wanted) }
+/// What digits cost in the regions of these territories, in their order. Refused only for memory.
+fn costs_in(short: &Plans, digits: &str, found: &[&Territory]) -> Result<Vec<Cost>, AllocError>
+    ensures { IfOk result (λ v. v.items ≡ map (cost_in short.now digits.now)
+        (map (λ (m : Bor loader.Metadata). m.now) found.now)) }
 {
+    let mut costs = Vec::with_capacity(short.allocator(), found.len())?;
     for m in found {
-        if is_one_cost(wanted, cost_in(short, digits, m)?) {
-            return Ok(true);
-        }
+        costs.push(cost_in(short, digits, m)?)?;
     }
-    Ok(false)
+    Ok(costs)
+}
+
+/// Of costs the first there is of premium rate, an unknown cost, standard rate and nothing; unknown
+/// without one. Takes no memory.
+pub fn dearest_of(costs: &[Cost]) -> Cost
+    ensures { result ≡ dearest_of costs.now }
+{
+    if has_cost(costs, Cost::PremiumRate) {
+        Cost::PremiumRate
+    } else if has_cost(costs, Cost::Unknown) {
+        Cost::Unknown
+    } else if has_cost(costs, Cost::StandardRate) {
+        Cost::StandardRate
+    } else if has_cost(costs, Cost::TollFree) {
+        Cost::TollFree
+    } else {
+        Cost::Unknown
+    }
+}
+
+/// Whether a cost is among others.
+fn has_cost(costs: &[Cost], wanted: Cost) -> bool
+    ensures { result ≡ list_any (is_one_cost wanted) costs.now }
+{
+    costs.iter().any(|cost| is_one_cost(wanted, *cost))
 }
 
 /// Whether two costs are one.
@@ -312,6 +352,42 @@ pub fn cost_in(short: &Plans, digits: &str, m: &Territory) -> Result<Cost, Alloc
         Some(region) => cost(short, region, digits),
         None => Ok(Cost::Unknown),
     }
+}
+
+/// All that is known of a number as a short number of any region of its calling code, whose
+/// territories are looked up once. Refused only for memory.
+pub fn facts_anywhere(
+    database: &Plans,
+    short: &Plans,
+    number: &PhoneNumber,
+) -> Result<FactsAnywhere, AllocError>
+    ensures { IfOk result (λ facts. facts ≡
+        facts_anywhere database.now short.now number.now) }
+{
+    let digits = number.national().to_string(database.allocator())?;
+    match database.by_code(&number.code().value())? {
+        Some(found) => facts_of(short, digits.as_str(), found.as_slice()),
+        None => Ok(FactsAnywhere {
+            cost: Cost::Unknown,
+            is_possible: false,
+            is_valid: false,
+            is_carrier_specific: false,
+        }),
+    }
+}
+
+/// The same of digits and the territories of their code. Refused only for memory.
+fn facts_of(short: &Plans, digits: &str, found: &[&Territory]) -> Result<FactsAnywhere, AllocError>
+    ensures { IfOk result (λ facts. facts ≡ facts_of short.now digits.now
+        (map (λ (m : Bor loader.Metadata). m.now) found.now)) }
+{
+    let chosen = chosen_of(short, digits, found)?;
+    Ok(FactsAnywhere {
+        cost: dearest(short, digits, found)?,
+        is_possible: is_possible_of(short, digits, found)?,
+        is_valid: is_valid_by_chosen(short, digits, found, chosen)?,
+        is_carrier_specific: is_carrier_by_chosen(short, digits, chosen)?,
+    })
 }
 
 /// The example of a region's short numbers, where its table gives one. Takes no memory.

@@ -1,3 +1,4 @@
 pub mod Codes
+pub mod Fits
 pub mod Read
 pub mod Tried

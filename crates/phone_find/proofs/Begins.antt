@@ -8,9 +8,10 @@ use Rattle.std.proofs.lemmas.Str.{IsUtf8-between, chars-append}
 use Rattle.std.specs.Str.{chars}
 use Rattle.phone_chars.specs.Characters.{is_plus}
 use Rattle.phone_parts.specs.Texts.{begins, ends}
-use Rattle.phone_finder_text.specs.Numbers.{is_begin, is_candidate, is_end, is_inside, is_piece, is_shaped}
+use Rattle.phone_finder_text.specs.Numbers.{is_begin, is_candidate, is_end, is_inside, is_piece, is_plain, is_shaped}
 use Rattle.phone_finder_text.specs.Rules.{followers, links, stamps}
 use Rattle.phone_finder_text.specs.Sets.{is_first, is_last}
+use Rattle.phone_finder_text.specs.Shapes.{has_date, has_few_digits}
 use Rattle.phone_finder_text.specs.Walks.{fits_some}
 use Rattle.phone_find.specs.Alone.{is_opening}
 
@@ -55,6 +56,14 @@ candidate_last before piece after e =
     let free = not (fits_some followers (reverse piece) after) in
     let both = (and_parts (ends is_last piece && free) (not (fits_some stamps (reverse piece) after)) end).0 in
     (and_parts (ends is_last piece) free both).0
+
+-- a candidate has few digits, and is plain
+pub candidate_shape : (before piece after : List ℕ) → is_candidate before piece after ≡ true →
+    (has_few_digits piece ≡ true) × (is_plain piece ≡ true)
+candidate_shape before piece after e =
+    let all = and_parts (is_begin before (piece ++ after)) (is_piece piece after) e in
+    let shape = (and_parts (is_end piece after) (is_shaped piece) all.1).1 in
+    and_parts (has_few_digits piece) (is_plain piece) (and_parts (has_few_digits piece && is_plain piece) (not (has_date piece)) shape).0
 
 -- a number may begin where a candidate does
 pub candidate_begins : (text : List ℕ) (start end : ℕ) → IsUtf8 text → start < end → IsCharBoundary text start → IsCharBoundary text end →

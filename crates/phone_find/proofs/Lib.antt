@@ -4,6 +4,7 @@ pub mod FoundAlone
 pub mod Ones
 pub mod Places
 pub mod PrintedFound
+pub mod Reach
 pub mod Searches
 pub mod SettledFound
 pub mod Shapes

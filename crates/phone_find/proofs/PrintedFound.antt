@@ -42,7 +42,7 @@ use Rattle.phone_find.specs.Alone.{EndsInDigits, IsAmong, IsNothingElse, IsPlain
 use Rattle.phone_find.specs.Alone.{is_opening, placed}
 use Rattle.phone_finder_text.specs.Numbers.{is_begin, is_candidate, is_piece}
 use Rattle.phone_finder_text.specs.Sets.{is_last}
-use Rattle.phone_finder_text.specs.Shapes.{is_made}
+use Rattle.phone_finder_text.specs.Shapes.{has_few_digits, is_made}
 use Rattle.phone_find.specs.Leniencies.{is_possible_count, suffices}
 use Rattle.phone_find.specs.Numbers.{AreNumbers, IsNumberBetween}
 use Rattle.phone_find.specs.declared.leniency.Leniency.{Leniency}
@@ -166,7 +166,8 @@ module _ (db : List Metadata) (l : Leniency) (n : Reading) (before text after : 
 module _ (db : List Metadata) (n : Reading) (text : List ℕ) (bounded : IsBounded n) (utf8 : IsUtf8
     text) (p : IsPlainInternational db n)
     (ended : EndsInDigits p.territory n) (is : printed db International None n ≡ Some text) (short :
-    length text ≤ 250) (after : List ℕ) (free : IsNothingElse (chars text) (32 ∷ chars after)) where
+    length text ≤ 250) (few : has_few_digits (chars text) ≡ true) (after : List ℕ) (free : IsNothingElse (chars text)
+    (32 ∷ chars after)) where
   abbrev m : Metadata
   m = p.territory
 
@@ -196,7 +197,7 @@ module _ (db : List Metadata) (n : Reading) (text : List ℕ) (bounded : IsBound
   read u = ap chars (sym same) ∙ chars-international_text n fits m u (subst IsUtf8 (sym same) utf8)
 
   shaped_as : (t : List ℕ) → chars text ≡ t → is_made t ≡ true → ends is_last t ≡ true → IsShaped text after
-  shaped_as t e made last = shaped_from text after short (ap is_made e ∙ made) (ap (ends is_last) e ∙ last) free
+  shaped_as t e made last = shaped_from text after short few (ap is_made e ∙ made) (ap (ends is_last) e ∙ last) free
 
   alone : n.extension ≡ None → IsShaped text after
   alone none =

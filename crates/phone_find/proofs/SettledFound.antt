@@ -1,8 +1,9 @@
 -- A settled number's E.164 text between two spaces is found alone, by the rules of libphonenumber.
-use Rattle.std.proofs.Common.{◌≡◌, ℕ, ◌≤◌, true, List, [], ◌∷◌, ◌++◌, length, Option, Ok, refl, ap, ◌∙◌, arith}
+use Rattle.std.proofs.Common.{◌≡◌, ℕ, ◌<◌, ◌≤◌, ◌^◌, true, List, [], ◌∷◌, ◌++◌, length, length-append, Option, Ok, refl, ap, ◌∙◌, arith}
 use Rattle.std.specs.Fmt.{decimal}
 use Rattle.std.specs.Str.{chars}
 use Rattle.std.proofs.lemmas.Bool.{and_from}
+use Rattle.std.proofs.lemmas.Fmt.{length-decimal-le}
 use Rattle.phone_chars.specs.Characters.{is_plus}
 use Rattle.phone_engine.specs.Readings.{ReadsBy}
 use Rattle.phone_values.specs.declared.rules.Rules.TheVariants.{Library}
@@ -12,13 +13,13 @@ use Rattle.phone_values.specs.declared.reading.Reading.{Reading}
 use Rattle.phone_library_laws.proofs.ReadAgain.{settled_characters, settled_digits, settled_enough, settled_few}
 use Rattle.phone_library_laws.specs.Again.{IsSettled, e164_reading}
 use Rattle.phone_finder_text.specs.Sets.{is_last}
-use Rattle.phone_finder_text.specs.Shapes.{is_made}
+use Rattle.phone_finder_text.specs.Shapes.{has_few_digits, is_made}
 use Rattle.phone_parts.specs.Texts.{begins, ends}
 use Rattle.phone_print.specs.Texts.{e164_text}
 use Rattle.phone_records.specs.declared.loader.Metadata.{Metadata}
 use Rattle.phone_find.proofs.FoundAlone.{found_alone}
 use Rattle.phone_find.proofs.PrintedFound.{among_spaces, spaced_candidate}
-use Rattle.phone_find.proofs.Shapes.{ends_signed, made_signed, shaped_from}
+use Rattle.phone_find.proofs.Shapes.{ends_signed, few_of, made_signed, shaped_from}
 use Rattle.phone_find.specs.Alone.{IsAmong, IsNothingElse, IsShaped, placed}
 use Rattle.phone_find.specs.Leniencies.{suffices, suffices_in}
 use Rattle.phone_finder_text.specs.Numbers.{is_candidate}
@@ -44,12 +45,19 @@ module _ (db : List Metadata) (hint : Option Id) (l : Leniency) (n : Reading) (b
   read : chars (e164_text n) ≡ 43 ∷ digits
   read = settled_characters db n settled
 
+  few_digits : has_few_digits (chars (e164_text n)) ≡ true
+  few_digits =
+      let fits : n.code.value < 2 ^ 64 = omega (arith, settled.short_code) in
+      let code : length (decimal n.code.value) ≤ 3 = length-decimal-le 3 n.code.value (omega arith) (omega (arith, settled.short_code)) fits in
+      ap has_few_digits read ∙ few_of (43 ∷ digits)
+      (omega (arith, length-append (decimal n.code.value) (text_of n.national), code, settled.short_enough))
+
   shaped : IsShaped (e164_text n) after
   shaped =
       let all = settled_digits db n settled in
-      let few = settled_few db n settled in
+      let short = settled_few db n settled in
       let some : 1 ≤ length digits = (let enough = settled_enough db n settled in omega (arith, enough)) in
-      shaped_from (e164_text n) after few (ap is_made read ∙ made_signed digits all) (ap (ends is_last) read ∙ ends_signed digits all some) free
+      shaped_from (e164_text n) after short few_digits (ap is_made read ∙ made_signed digits all) (ap (ends is_last) read ∙ ends_signed digits all some) free
 
   candidate : is_candidate (chars (before ++ 32 ∷ [])) (chars (e164_text n)) (chars (32 ∷ after)) ≡ true
   candidate = spaced_candidate before (e164_text n) after (ap (begins is_plus) read) shaped.piece

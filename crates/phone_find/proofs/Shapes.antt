@@ -1,19 +1,21 @@
 -- What a printed international text, or one of a plus sign and digits, is made of.
 use Rattle.std.proofs.Common.{◌≡◌, ℕ, ◌≤◌, ◌==◌, Bool, true, false, not, ◌&&◌, ◌||◌, List, inl, inr}
-use Rattle.std.proofs.Common.{[], ◌∷◌, ◌++◌, codes, length, append_assoc, append-nil, reverse, refl, ap, sym, ◌∙◌}
+use Rattle.std.proofs.Common.{[], ◌∷◌, ◌++◌, codes, length, length-append, append_assoc, append-nil, reverse, refl, ap, sym, ◌∙◌}
 use Rattle.std.proofs.Common.{arith}
-use Rattle.std.proofs.lemmas.Bool.{and_from, and_parts, cond-false, not-true, not_from_false, or_cases, or_left, or_right}
+use Rattle.std.proofs.lemmas.Bool.{and_from, and_parts, cond-false, le-leb, not-true, not_from_false, or_cases, or_left, or_right}
 use Rattle.std.proofs.lemmas.List.Folds.{list_all-append}
-use Rattle.std.specs.List.{list_all}
+use Rattle.std.proofs.lemmas.List.Sums.{count_by-le-length}
+use Rattle.std.specs.List.{count_by, list_all}
 use Rattle.std.specs.Str.{chars}
 use Rattle.ucd_case.proofs.Computing.{ucd_case}
 use Rattle.ucd_category.proofs.Computing.{ucd_category}
 use Rattle.phone_chars.specs.Characters.{is_digit, is_nd, is_one_of, is_plus, is_punctuation, is_separator}
-use Rattle.phone_chars.specs.Cuts.{after_front}
-use Rattle.phone_finder_text.specs.Numbers.{is_end, is_shaped}
+use Rattle.phone_chars.proofs.Runs.{front-append-after_front}
+use Rattle.phone_chars.specs.Cuts.{after_front, front}
+use Rattle.phone_finder_text.specs.Numbers.{is_end, is_plain, is_shaped}
 use Rattle.phone_finder_text.specs.Rules.{followers, labels, stamps}
 use Rattle.phone_finder_text.specs.Sets.{is_gap, is_inner, is_last, stands_for, stands_plainly}
-use Rattle.phone_finder_text.specs.Shapes.{are_extension_digits, has_date, is_bracketed, is_extension}
+use Rattle.phone_finder_text.specs.Shapes.{are_extension_digits, has_date, has_few_digits, is_bracketed, is_extension}
 use Rattle.phone_finder_text.specs.Shapes.{is_made, is_nil, is_sign_or_end}
 use Rattle.phone_finder_text.specs.Walks.{fits_some}
 use Rattle.phone_find.specs.Alone.{IsNothingElse, IsShaped}
@@ -147,15 +149,24 @@ module _ (cd q : List ℕ) (code : list_all is_digit cd ≡ true) (printed : lis
         ap (ends is_last) parted ∙ last_digit (spaced ++ (codes "ext. " ++ e)) (ends-append is_digit spaced (codes "ext. " ++ e)
         (ends-append is_digit (codes "ext. ") e (all_end e digits some)))
 
+-- a short text has few digits
+pub few_of : (t : List ℕ) → length t ≤ 34 → has_few_digits t ≡ true
+few_of t short =
+    let run = front is_inner t in
+    let whole = ap length (front-append-after_front is_inner t) in
+    le-leb (count_by is_nd run) 34
+    (omega (arith, count_by-le-length is_nd run, whole, length-append run (after_front is_inner t), short))
+
 -- a text that is made as a number is, ends as one does, and is taken for nothing else may be one
-pub shaped_from : (text after : List ℕ) → length text ≤ 250 → is_made (chars text) ≡ true → ends is_last (chars text) ≡ true →
-    IsNothingElse (chars text) (32 ∷ chars after) → IsShaped text after
-shaped_from text after short made last free =
+pub shaped_from : (text after : List ℕ) → length text ≤ 250 → has_few_digits (chars text) ≡ true → is_made (chars text) ≡ true →
+    ends is_last (chars text) ≡ true → IsNothingElse (chars text) (32 ∷ chars after) → IsShaped text after
+shaped_from text after short few made last free =
     let cs = chars text in
     let next = 32 ∷ chars after in
     let end = and_from (ends is_last cs && not (fits_some followers (reverse cs) next)) (not (fits_some stamps (reverse cs) next))
     (and_from (ends is_last cs) (not (fits_some followers (reverse cs) next)) last (not_from_false _ free.unfollowed))
     (not_from_false _ free.unstamped) in
-    let shape = and_from (is_made cs && is_bracketed cs) (not (has_date cs)) (and_from (is_made cs) (is_bracketed cs) made free.bracketed)
+    let plain = and_from (is_made cs) (is_bracketed cs) made free.bracketed in
+    let shape = and_from (has_few_digits cs && is_plain cs) (not (has_date cs)) (and_from (has_few_digits cs) (is_plain cs) few plain)
     (not_from_false _ free.dateless) in
     record { short = short; piece = and_from (is_end cs next) (is_shaped cs) end shape }

@@ -8,8 +8,8 @@ use Rattle.phone_values.specs.declared.error.ParseError.{ParseError}
 use Rattle.phone_values.specs.declared.error.ParseError.TheVariants.{Memory}
 use Rattle.phone_records.specs.declared.loader.Metadata.{Metadata}
 use Rattle.phone_engine.proofs.OneReading.{reading_same}
-use Rattle.phone_find.proofs.Begins.{candidate_end}
-use Rattle.phone_finder_text.specs.Numbers.{is_candidate, is_end}
+use Rattle.phone_find.proofs.Begins.{candidate_end, candidate_shape}
+use Rattle.phone_finder_text.specs.Numbers.{is_candidate, is_end, is_plain}
 use Rattle.phone_engine.specs.Readings.{ReadsBy}
 use Rattle.phone_values.specs.declared.rules.Rules.{Rules}
 use Rattle.phone_values.specs.declared.reading.Reading.{Reading}
@@ -95,6 +95,12 @@ module _ (rules : Rules) (db : List Metadata) (hint : Option Id) (l : Leniency) 
       ToldBetween before piece after None
   told_endless before piece after b told refused n at =
       true≢false (sym (candidate_end (chars before) (chars piece) (chars after) at.candidate) ∙ sym told ∙ refused)
+
+  -- nor where it isn't plain
+  pub told_rough : (before piece after : List ℕ) (b : Bool) → b ≡ is_plain (chars piece) → b ≡ false →
+      ToldBetween before piece after None
+  told_rough before piece after b told refused n at =
+      true≢false (sym (candidate_shape (chars before) (chars piece) (chars after) at.candidate).1 ∙ sym told ∙ refused)
 
   -- nor where it isn't read as one
   pub told_unread : (before piece after : List ℕ) → ((n : Reading) → ¬ (IsReadWell rules db hint l piece n)) → ToldBetween before piece after None

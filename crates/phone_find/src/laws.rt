@@ -17,6 +17,7 @@ ghost use Rattle.phone_find.specs.Alone.{IsShaped, placed};
 ghost use Rattle.phone_find.specs.Founds.{IsDecided, IsOrdered, most_bytes};
 ghost use Rattle.phone_find.specs.Leniencies.{suffices};
 ghost use Rattle.phone_find.specs.Numbers.{AreNumbers, IsNumberAt, IsNumberBetween};
+ghost use Rattle.phone_finder_text.specs.Shapes.{has_few_digits};
 ghost use Rattle.phone_find.specs.declared.leniency.Leniency.{Leniency};
 ghost use Rattle.phone_find.specs.declared.search.Found.{Found};
 ghost use Rattle.phone_values.specs.declared.rules.Rules.{Rules};
@@ -104,15 +105,16 @@ pub fn printed_is_found()
         (m : Reading) × IsSame n n.extension m × (all ≡ placed (before ++ 32 ∷ []) text m ∷ []) }
 {}
 
-/// The international text of a plain number may be a number so if it has at most 250 bytes, the
-/// laid-out number ends in a digit, there is no extension, or one of digits that ` ext. `
-/// announces, and it is taken for nothing else: its brackets stand as they may in a number, no date
-/// stands in it, and what follows makes no longer number, price or time of it.
+/// The international text of a plain number may be a number so if it has at most 250 bytes and few
+/// digits, the laid-out number ends in a digit, there is no extension, or one of digits that
+/// ` ext. ` announces, and it is taken for nothing else: its brackets stand as they may in a
+/// number, no date stands in it, and what follows makes no longer number, price or time of it.
 pub fn plain_is_shaped()
     ensures { (db : List loader.Metadata) (n : Reading) (text after : List ℕ) → IsBounded n →
         IsUtf8 text → (plain : IsPlainInternational db n) → EndsInDigits plain.territory n →
         printed db mode.International None n ≡ Some text → length text ≤ most_bytes →
-        IsNothingElse (chars text) (32 ∷ chars after) → IsShaped text after }
+        has_few_digits (chars text) ≡ true → IsNothingElse (chars text) (32 ∷ chars after) →
+        IsShaped text after }
 {}
 
 /// By the rules of libphonenumber the E.164 text of a number that suffices, between two spaces, is

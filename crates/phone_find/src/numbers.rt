@@ -10,7 +10,7 @@ ghost use Rattle.phone_find.specs.Numbers.{AreNumbers, IsNumberAt, IsReadWell};
 use crate::leniency::{Leniency, suffices_in};
 use crate::search::{Found, Judge, all_accepted};
 use phone_engine::Engine;
-use phone_finder_text::{is_shaped, may_begin, may_end};
+use phone_finder_text::{from_too_many, is_plain, is_shaped, may_begin, may_end};
 use phone_values::ParseError;
 use phonenumber::PhoneNumber;
 use std::alloc::{AllocError, Global};
@@ -30,6 +30,11 @@ impl<'d> Judge<PhoneNumber> for Sufficient<'d> {
 
     fn may_begin(&self, text: &str, start: usize) -> bool {
         may_begin(&text[..start], &text[start..])
+    }
+
+    fn reach(&self, text: &str, start: usize) -> usize {
+        text.len()
+            .saturating_sub(from_too_many(&text[start..]).len())
     }
 
     fn judge(
@@ -60,8 +65,8 @@ fn is_candidate(text: &str, start: usize, end: usize) -> bool
 }
 
 /// The number that a piece of a text is, where it may be one by the characters, and is read as one
-/// that suffices. It is read before its characters are looked at, since most pieces are no number
-/// at once. Refused only for memory.
+/// that suffices. It is read before all of its characters are looked at, since most pieces are no
+/// number at once. Refused only for memory.
 fn number_at(
     engine: Engine<'_>,
     leniency: Leniency,
@@ -79,6 +84,9 @@ fn number_at(
         engine.entry.hint leniency text.now start end n)) }
 {
     if !may_end(&text[start..end], &text[end..]) {
+        return Ok(None);
+    }
+    if !is_plain(&text[start..end]) {
         return Ok(None);
     }
     match number_in(engine, leniency, &text[start..end])? {

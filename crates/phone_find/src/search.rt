@@ -28,6 +28,12 @@ pub trait Judge<N> {
         ensures { result ≡ false → (f : Found N) → Stands (accepts self.now text.now) text.now f →
             ¬ (f.start ≡ start) };
 
+    /// How far a piece may reach that begins here: none that is accepted ends behind this byte.
+    fn reach(&self, text: &str, start: usize) -> usize
+        requires border { IsCharBoundary text.now start }
+        ensures { (f : Found N) → Stands (accepts self.now text.now) text.now f →
+            f.start ≡ start → f.end ≤ result };
+
     /// What a piece is accepted as; none where it isn't. Refused only for memory.
     fn judge(
         &self,
@@ -60,7 +66,8 @@ fn longest_at<N: Drop, J: Judge<N>>(
     if !judge.may_begin(text, start) {
         return Ok(None);
     }
-    let mut end = text.len().min(start.saturating_add(250));
+    let most = text.len().min(start.saturating_add(250));
+    let mut end = most.min(judge.reach(text, start));
     while end > start {
         if text.is_char_boundary(end) {
             if let Some(number) = judge.judge(alloc, text, start, end)? {

@@ -5,7 +5,7 @@ use Rattle.phone_parts.specs.Texts.{begins, ends}
 use Rattle.phone_finder_text.specs.Rules.{accounts, areas, cards, codes_before, links, neighbours}
 use Rattle.phone_finder_text.specs.Rules.{followers, stamps}
 use Rattle.phone_finder_text.specs.Sets.{is_first, is_last}
-use Rattle.phone_finder_text.specs.Shapes.{has_date, is_bracketed, is_made}
+use Rattle.phone_finder_text.specs.Shapes.{has_date, has_few_digits, is_bracketed, is_made}
 use Rattle.phone_finder_text.specs.Walks.{fits_some}
 
 -- a place in a text is inside something else: a longer number, a price, an address of the net, an
@@ -26,9 +26,13 @@ abbrev pub is_end : (piece after : List ℕ) → Bool
 is_end piece after = ends is_last piece && not (fits_some followers (reverse piece) after) &&
     not (fits_some stamps (reverse piece) after)
 
--- a piece is made as a number is: of its characters, with good brackets, without a date
+-- a piece is made of a number's characters, with good brackets
+abbrev pub is_plain : List ℕ → Bool
+is_plain piece = is_made piece && is_bracketed piece
+
+-- a piece is made as a number is: it is such a one, has few digits, and no date
 abbrev pub is_shaped : List ℕ → Bool
-is_shaped piece = is_made piece && is_bracketed piece && not (has_date piece)
+is_shaped piece = has_few_digits piece && is_plain piece && not (has_date piece)
 
 -- a piece may be a number, by its characters and what follows it
 abbrev pub is_piece : (piece after : List ℕ) → Bool

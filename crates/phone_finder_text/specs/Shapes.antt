@@ -1,9 +1,9 @@
 -- What a number in a text is made of. Texts are lists of characters.
-use Rattle.std.specs.Prelude.{ℕ, ◌==◌, ◌&&◌, ◌||◌, not, Bool, true, false, List, [], ◌∷◌}
-use Rattle.std.specs.List.{list_any}
+use Rattle.std.specs.Prelude.{ℕ, ◌==◌, ◌&&◌, ◌||◌, not, Bool, true, false, nat_le, List, [], ◌∷◌}
+use Rattle.std.specs.List.{count_by, list_any}
 use Rattle.std.specs.Option.{option_map_or}
 use Rattle.phone_chars.specs.Characters.{is_nd}
-use Rattle.phone_chars.specs.Cuts.{after_front}
+use Rattle.phone_chars.specs.Cuts.{after_front, front}
 use Rattle.phone_matches_text.specs.Brackets.{has_good_brackets}
 use Rattle.phone_parts.specs.Texts.{begins}
 use Rattle.phone_finder_text.specs.Rules.{dates, labels}
@@ -36,6 +36,15 @@ is_extension t = list_any (is_labelled t) labels
 -- what may stand in a number, and behind it perhaps an extension
 abbrev pub is_made : List ℕ → Bool
 is_made t = let rest = after_front is_inner t in is_nil rest || is_extension rest
+
+-- the most digits that a number has: 17 of its national number, 3 of its calling code, 5 of an
+-- international prefix, 9 of an extension behind an `x`
+abbrev pub most_digits : ℕ
+most_digits = 34
+
+-- few digits stand in the text before the first character that may not stand in a number
+abbrev pub has_few_digits : List ℕ → Bool
+has_few_digits t = nat_le (count_by is_nd (front is_inner t)) most_digits
 
 -- the first bracket isn't a closing one, and brackets stand as they may in a number
 abbrev pub is_bracketed : List ℕ → Bool

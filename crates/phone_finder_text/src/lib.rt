@@ -10,4 +10,4 @@ mod sets;
 mod signs;
 mod walks;
 
-pub use numbers::{is_shaped, may_begin, may_end};
+pub use numbers::{from_too_many, is_plain, is_shaped, may_begin, may_end};

@@ -1,10 +1,13 @@
 //! Where a number may begin and end in a text, and what it is made of.
-ghost use Rattle.std.specs.Prelude.{◌≡◌, chars, reverse};
+ghost use Rattle.std.specs.Prelude.{◌≡◌, ◌≤◌, ◌++◌, ℕ, List, true, chars, length};
+ghost use Rattle.std.specs.Prelude.{reverse};
 ghost use Rattle.std.specs.List.{list_any};
-ghost use Rattle.phone_finder_text.specs.Numbers.{is_begin, is_end, is_inside, is_shaped};
-ghost use Rattle.phone_finder_text.specs.Shapes.{are_extension_digits, is_bracketed};
-ghost use Rattle.phone_finder_text.specs.Shapes.{is_extension, is_labelled, is_made};
-ghost use Rattle.phone_finder_text.specs.Shapes.{is_sign_or_end};
+ghost use Rattle.phone_chars.specs.Cuts.{IsEnd};
+ghost use Rattle.phone_finder_text.specs.Numbers.{is_begin, is_end, is_inside, is_plain};
+ghost use Rattle.phone_finder_text.specs.Numbers.{is_shaped};
+ghost use Rattle.phone_finder_text.specs.Shapes.{are_extension_digits, has_few_digits};
+ghost use Rattle.phone_finder_text.specs.Shapes.{is_bracketed, is_extension, is_labelled, is_made};
+ghost use Rattle.phone_finder_text.specs.Shapes.{is_nil, is_sign_or_end};
 ghost use Rattle.phone_finder_text.specs.Told.{all_told};
 
 use crate::cuts::{begins_in, ends_in, is_nil, peel};
@@ -14,7 +17,8 @@ use crate::rules::{
 };
 use crate::sets::{Closing, Digits, First, Gaps, Inner, Last, Plus, Unbracketed};
 use crate::walks::{after_signs, fits_some};
-use phone_chars::cuts::after_run;
+use phone_chars::chars::is_nd;
+use phone_chars::cuts::{CharSet, after_run, split_first};
 use phone_matches_text::has_good_brackets;
 
 /// Whether the place between two parts of a text is inside something else.
@@ -113,11 +117,55 @@ fn is_bracketed(text: &str) -> bool
     !begins_in(after_run(text, &Unbracketed), &Closing) && has_good_brackets(text)
 }
 
-/// Whether a piece is made as a number is: it is digits, plus signs and what may stand between
-/// groups, perhaps with an extension; its brackets stand as they may in a number; no date stands in
+/// The most digits that a number has: 17 of its national number, 3 of its calling code, 5 of an
+/// international prefix, 9 of an extension behind an `x`.
+const MOST_DIGITS: usize = 34;
+
+/// The text from the first digit on that would be one too many for a number that begins the text;
+/// nothing where there is none, or a character stands before it that may not stand in a number. The
+/// time is linear in what stands before that digit.
+pub fn from_too_many(text: &str) -> &str
+    ensures end { IsEnd text.now result.now }
+    ensures few { is_nil (chars result.now) ≡ has_few_digits (chars text.now) }
+    ensures bound { (piece after : List ℕ) → chars text.now ≡ piece ++ after →
+        has_few_digits piece ≡ true → length (chars result.now) ≤ length after }
+{
+    let mut rest = text;
+    let mut left = MOST_DIGITS;
+    while let Some((c, after)) = split_first(rest) {
+        if !Inner.has(c) {
+            return "";
+        }
+        if is_nd(c) {
+            if left == 0 {
+                return rest;
+            }
+            left -= 1;
+        }
+        rest = after;
+    }
+    ""
+}
+
+/// Whether few digits stand in a text before the first character that may not stand in a number.
+fn has_few_digits(text: &str) -> bool
+    ensures { result ≡ has_few_digits (chars text.now) }
+{
+    is_nil(from_too_many(text))
+}
+
+/// Whether a piece is digits, plus signs and what may stand between groups, perhaps with an
+/// extension, and its brackets stand as they may in a number. The time is linear in the piece.
+pub fn is_plain(piece: &str) -> bool
+    ensures { result ≡ is_plain (chars piece.now) }
+{
+    is_made(piece) && is_bracketed(piece)
+}
+
+/// Whether a piece is made as a number is: it is a plain one, has few digits, and no date stands in
 /// it. The time is linear in the piece.
 pub fn is_shaped(piece: &str) -> bool
     ensures { result ≡ is_shaped (chars piece.now) }
 {
-    is_made(piece) && is_bracketed(piece) && !has_date(piece)
+    has_few_digits(piece) && is_plain(piece) && !has_date(piece)
 }

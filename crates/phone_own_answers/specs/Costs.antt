@@ -15,11 +15,11 @@ abbrev pub is_valid_in : List Metadata → List ℕ → Metadata → Bool
 is_valid_in short digits m = option_map_or (λ id. is_valid_short short id (chars digits))
     (region_of m) false
 
--- the table of a territory's region knows digits: they are a short number there, or what they cost
--- is told
+-- the table of a territory's region knows digits: what they cost there is told, or they are a short
+-- number there
 abbrev pub knows : List Metadata → List ℕ → Metadata → Bool
-knows short digits m = is_valid_in short digits m ||
-    not (is_one_cost Unknown (cost_in short digits m))
+knows short digits m = not (is_one_cost Unknown (cost_in short digits m)) ||
+    is_valid_in short digits m
 
 -- what a number costs: in the regions of its code whose table knows it the first there is of
 -- premium rate, an unknown cost, standard rate and nothing

@@ -1,11 +1,11 @@
 //! What a short number of a calling code costs, of which no region is told: our own answer.
 ghost use Rattle.std.specs.Prelude.{◌≡◌, IfOk, filter, map, not};
 ghost use Rattle.std.specs.Borrow.{Bor};
-ghost use Rattle.phone_dialling.specs.ShortNumbers.{dearest, is_one_cost};
+ghost use Rattle.phone_dialling.specs.ShortNumbers.{cost_in, dearest, is_one_cost};
 ghost use Rattle.phone_own_answers.specs.Costs.{is_valid_in, known_cost, knows};
 ghost use Rattle.phone_records.specs.declared.loader.Metadata as loader;
 
-use phone_dialling::{cost_in, dearest};
+use phone_dialling::{cost_in, dearest_of};
 use phone_plans::{Plans, Territory};
 use phone_short::{Cost, is_valid_short};
 use phonenumber::PhoneNumber;
@@ -31,34 +31,34 @@ fn cost_among(short: &Plans, digits: &str, found: &[&Territory]) -> Result<Cost,
         (filter (knows short.now digits.now)
         (map (λ (m : Bor loader.Metadata). m.now) found.now))) }
 {
-    let known = knowing(short, digits, found)?;
-    dearest(short, digits, known.as_slice())
+    let costs = known_costs(short, digits, found)?;
+    Ok(dearest_of(costs.as_slice()))
 }
 
-/// Those of these territories whose region's table knows digits. Refused only for memory.
-fn knowing<'d>(
-    short: &Plans,
-    digits: &str,
-    found: &[&'d Territory],
-) -> Result<Vec<&'d Territory>, AllocError>
-    ensures { IfOk result (λ v. map (λ (m : Bor loader.Metadata). m.now) v.items ≡
-        filter (knows short.now digits.now)
-        (map (λ (m : Bor loader.Metadata). m.now) found.now)) }
+/// What digits cost in those of these territories whose region's table knows them. Refused only for
+/// memory.
+fn known_costs(short: &Plans, digits: &str, found: &[&Territory]) -> Result<Vec<Cost>, AllocError>
+    ensures { IfOk result (λ v. v.items ≡ map (cost_in short.now digits.now)
+        (filter (knows short.now digits.now)
+        (map (λ (m : Bor loader.Metadata). m.now) found.now))) }
 {
-    let mut known = Vec::new(short.allocator());
+    let mut costs = Vec::with_capacity(short.allocator(), found.len())?;
     for m in found {
-        if knows(short, digits, m)? {
-            known.push(*m)?;
+        let cost = cost_in(short, digits, m)?;
+        if knows(short, digits, m, cost)? {
+            costs.push(cost)?;
         }
     }
-    Ok(known)
+    Ok(costs)
 }
 
-/// Whether the table of a territory's region knows digits. Refused only for memory.
-fn knows(short: &Plans, digits: &str, m: &Territory) -> Result<bool, AllocError>
+/// Whether the table of a territory's region knows digits, of which it tells this cost. Refused
+/// only for memory.
+fn knows(short: &Plans, digits: &str, m: &Territory, cost: Cost) -> Result<bool, AllocError>
+    requires { cost ≡ cost_in short.now digits.now m.now }
     ensures { IfOk result (λ b. b ≡ knows short.now digits.now m.now) }
 {
-    Ok(is_valid_in(short, digits, m)? || is_told(cost_in(short, digits, m)?))
+    Ok(is_told(cost) || is_valid_in(short, digits, m)?)
 }
 
 /// Whether digits are a short number in a territory's region. Refused only for memory.

@@ -1,16 +1,17 @@
 //! The leading digits for which a layout is meant.
-ghost use Rattle.std.specs.Prelude.{◌≡◌, ◌==◌, ◌++◌, [], ◌∷◌, true, length, reverse, Ok, IfOk};
+ghost use Rattle.std.specs.Prelude.{◌≡◌, ◌==◌, ◌++◌, ◌-◌, [], ◌∷◌, true, length, reverse, Ok, IfOk};
+ghost use Rattle.std.specs.Prelude.{slice_get};
+ghost use Rattle.std.specs.Option.{option_copied, option_or};
 ghost use Rattle.phone_pattern.specs.First.{led_by};
 
 use crate::pattern::Pattern;
 use crate::subject::Subject;
-use phone_base::Text;
 use std::alloc::AllocError;
 use std::marker::Model;
 
 /// Patterns of digits in front, of which the last decides. Contracts see their texts.
 pub struct Leading {
-    others: Vec<Text>,
+    others: Vec<Pattern>,
     /// None where there is no pattern at all.
     last: Option<Pattern>,
 }
@@ -37,15 +38,15 @@ impl Drop for Leading {
 
 impl Leading {
     /// No patterns.
-    pub(crate) fn none(others: Vec<Text>) -> Leading
+    pub(crate) fn none(others: Vec<Pattern>) -> Leading
         requires { others.items ≡ [] }
         ensures { result ≡ [] }
     {
         Leading { others, last: None }
     }
 
-    /// A pattern, with the texts of those before it.
-    pub(crate) fn of(others: Vec<Text>, last: Pattern) -> Leading
+    /// A pattern, with those before it.
+    pub(crate) fn of(others: Vec<Pattern>, last: Pattern) -> Leading
         ensures { result ≡ others.items ++ last ∷ [] }
     {
         Leading {
@@ -59,6 +60,17 @@ impl Leading {
         ensures { result ≡ (length self.now == 0) }
     {
         self.last.is_none()
+    }
+
+    /// The n-th pattern, counted from 0, or else the last. None where there is none.
+    pub fn at_or_last(&self, n: usize) -> Option<&Pattern>
+        ensures { option_copied result ≡ option_or (slice_get self.now n)
+            (slice_get self.now (length self.now - 1)) }
+    {
+        match self.others.get(n) {
+            Some(found) => Some(found),
+            None => self.last.as_ref(),
+        }
     }
 
     /// Whether digits are led by these patterns: there is none, or the first match of the last

@@ -83,30 +83,29 @@ impl Pool {
         Ok(made)
     }
 
-    /// Looks whether a text is a pattern. Refused as `pattern` refuses it.
-    fn check(&self, text: &Text) -> Result<(), LoadMetadata>
-        ensures read { IfOk result (λ done. IsPattern text.now) }
+    /// The pattern of a text that is lent. Refused as `pattern` refuses it.
+    fn pattern_of(&self, text: &Text) -> Result<Pattern, LoadMetadata>
+        ensures made { IfOk result (λ p. p ≡ text.now) }
+        ensures read { IfOk result (λ p. IsPattern text.now) }
         ensures refused { IfErr result (IsPatternRefusal (text.now ∷ [])) }
     {
-        match reading::check(self.alloc, text.as_str()) {
-            Ok(()) => Ok(()),
-            Err(Unread::Memory) => Err(LoadMetadata::Memory),
-            Err(Unread::Refused) => Err(LoadMetadata::Regex(text.clone()?.into_string())),
-        }
+        self.pattern(text.clone()?)
     }
 
-    /// Looks whether each of these texts is a pattern. Refused as the first that is refused.
-    fn check_all(&self, texts: &[Text]) -> Result<(), LoadMetadata>
-        ensures read { IfOk result (λ done. AllByRecursion IsPattern texts.now) }
+    /// The patterns of texts, in their order. Refused as the first that is refused.
+    fn patterns(&self, texts: &[Text]) -> Result<Vec<Pattern>, LoadMetadata>
+        ensures made { IfOk result (λ ps. ps.items ≡ texts.now) }
+        ensures read { IfOk result (λ ps. AllByRecursion IsPattern texts.now) }
         ensures refused { IfErr result (IsPatternRefusal texts.now) }
     {
+        let mut made = Vec::new(self.alloc);
         for text in texts {
-            self.check(text)?;
+            made.push(self.pattern_of(text)?)?;
         }
-        Ok(())
+        Ok(made)
     }
 
-    /// A list of leading digits, whose last pattern is read where its text is new. Refused by
+    /// A list of leading digits, each pattern of which is read where its text is new. Refused by
     /// `Regex` with the first text that is no pattern or compiles to more than 10 MiB, by `Memory`
     /// where memory is refused.
     pub fn leading(&self, texts: Vec<Text>) -> Result<Leading, LoadMetadata>
@@ -114,21 +113,11 @@ impl Pool {
         ensures read { IfOk result (λ l. AllByRecursion IsPattern texts.items) }
         ensures refused { IfErr result (IsPatternRefusal texts.items) }
     {
-        let mut others = texts;
+        let mut others = self.patterns(texts.as_slice())?;
         match others.pop() {
-            Some(last) => self.leading_by(others, last),
+            Some(last) => Ok(Leading::of(others, last)),
             None => Ok(Leading::none(others)),
         }
-    }
-
-    /// The same of the last text and of those before it.
-    fn leading_by(&self, others: Vec<Text>, last: Text) -> Result<Leading, LoadMetadata>
-        ensures made { IfOk result (λ l. l ≡ others.items ++ last ∷ []) }
-        ensures read { IfOk result (λ l. AllByRecursion IsPattern (others.items ++ last ∷ [])) }
-        ensures refused { IfErr result (IsPatternRefusal (others.items ++ last ∷ [])) }
-    {
-        self.check_all(others.as_slice())?;
-        Ok(Leading::of(others, self.pattern(last)?))
     }
 
     /// What is compiled of a text, where the text is new. Refused by `Regex` with the text where it

@@ -1,7 +1,7 @@
 //! What a pattern's text is read as.
 ghost use Rattle.std.specs.Prelude.{◌≡◌, IfOk, map, option_map, string_bytes};
 ghost use Rattle.std.specs.Str.{chars};
-ghost use Rattle.phone_pattern.specs.First.{verbose, IsPattern};
+ghost use Rattle.phone_pattern.specs.First.{verbose};
 ghost use Rattle.phone_pattern.specs.Outlines.{IsReadAs};
 ghost use Rattle.phone_plain.specs.Plain.{IsPlain};
 ghost use Rattle.regex_hir.specs.Meaning.{meaning};
@@ -117,12 +117,4 @@ fn of_other(alloc: Global, pattern: &str) -> Result<ReadPattern, Unread>
         }),
         Err(_) => Err(Unread::Memory),
     }
-}
-
-/// Looks whether a text is a pattern.
-pub(crate) fn check(alloc: Global, pattern: &str) -> Result<(), Unread>
-    ensures { IfOk result (λ done. IsPattern pattern.now) }
-{
-    let _read = read(alloc, pattern)?;
-    Ok(())
 }

@@ -21,7 +21,7 @@ pub use counts::Counts;
 pub use header::{Column, ColumnError, Columns, column_of, columns_of};
 pub use key::e164_of;
 pub use phone_answers::{
-    ANSWER_WIDTH, Answer, Extra, Field, Owner, Shown, Told, Which, answer_to, finds, objects,
+    ANSWER_WIDTH, Answer, Extra, Field, Owner, Part, Shown, Told, Which, answer_to, finds, objects,
 };
 pub use phone_countries::{Countries, id_in};
 pub use phone_csv::{ByteSink, ByteSource, FirstError, RunError};

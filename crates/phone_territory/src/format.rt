@@ -1,8 +1,8 @@
 //! A layout of national numbers, with its patterns compiled.
-ghost use Rattle.std.specs.Prelude.{◌≡◌, ℕ, List, [], true, Some, Ok, option_map, IfOk, IsTrue};
-ghost use Rattle.std.specs.Prelude.{string_bytes};
+ghost use Rattle.std.specs.Prelude.{◌≡◌, ◌-◌, ℕ, List, [], true, Some, Ok, option_map, IfOk};
+ghost use Rattle.std.specs.Prelude.{IsTrue, length, slice_get, string_bytes};
 ghost use Rattle.std.specs.Borrow.{Bor};
-ghost use Rattle.std.specs.Option.{option_copied};
+ghost use Rattle.std.specs.Option.{option_copied, option_or};
 ghost use Rattle.phone_territory.specs.Layouts.{laid_by, layout_template, national_template};
 ghost use Rattle.phone_territory.specs.Layouts.{rule_for};
 ghost use Rattle.phone_pattern.specs.Rules.{ruled_template};
@@ -106,6 +106,15 @@ impl Format {
         ensures unsearched { self.now.leading_digits ≡ [] → result ≡ Ok true }
     {
         self.leading_digits.lead(digits)
+    }
+
+    /// The n-th pattern of the leading digits, counted from 0, or else the last. None where there
+    /// is none.
+    pub fn leading_at(&self, n: usize) -> Option<&Pattern>
+        ensures { option_copied result ≡ option_or (slice_get self.now.leading_digits n)
+            (slice_get self.now.leading_digits (length self.now.leading_digits - 1)) }
+    {
+        self.leading_digits.at_or_last(n)
     }
 
     /// Whether the layout suits digits: it names no leading digits, or the first match of the last

@@ -1,6 +1,7 @@
 -- The call that words are.
 use Rattle.std.specs.Prelude.{◌≡◌, ℕ, Bool, not, ◌||◌, ◌&&◌, List, [], ◌∷◌, codes, fold}
-use Rattle.std.specs.Prelude.{Option, Some, None, is_some, option_map, if◌then◌else◌}
+use Rattle.std.specs.Prelude.{Option, Some, None, is_some, option_and_then, option_map}
+use Rattle.std.specs.Prelude.{if◌then◌else◌}
 use Rattle.std.specs.Prelude.{Result, Ok, Err}
 use Rattle.std.specs.List.{filter_map, find}
 use Rattle.std.specs.Option.{option_or}
@@ -11,8 +12,8 @@ use Rattle.phone_values.specs.declared.rules.Rules.TheVariants.{Crate, Library}
 use Rattle.phone_words.specs.Parts.{Fault, Said, either, fault, fault_at, operand, option, parts_in}
 use Rattle.phone_words.specs.Parts.{and_then}
 use Rattle.phone_words.specs.Rows.{Entry, Lent, is_empty, text_in, texts_of}
-use Rattle.phone_words.specs.Values.{count_named, delimiter_named, encoding_named, level_named}
-use Rattle.phone_words.specs.Values.{rules_named}
+use Rattle.phone_words.specs.Values.{count_named, delimiter_named, encoding_named, form_named}
+use Rattle.phone_words.specs.Values.{level_named, rules_named}
 use Rattle.phone_words.specs.declared.call.Call.{Call}
 use Rattle.phone_words.specs.declared.command.Command.{Command}
 use Rattle.phone_words.specs.declared.command.Command.TheVariants as command
@@ -21,6 +22,7 @@ use Rattle.phone_words.specs.declared.parts.Why.TheVariants as why
 use Rattle.phone_words.specs.declared.parts.WordError.{WordError}
 use Rattle.phone_words.specs.declared.table.Further.{Further}
 use Rattle.phone_words.specs.declared.table.Table.{Table}
+use Rattle.phone_words.specs.declared.values.Form.{Form}
 use Rattle.phone_words.specs.declared.values.Level.{Level}
 
 -- the value of the option of this name, after one more part
@@ -81,15 +83,23 @@ found_command ps =
     if has ps (codes "--json") then command.FoundObjects else
     if has ps (codes "--csv") then command.FoundRecords else command.Find
 
--- what is asked for of lines
-abbrev pub line_command : List Said → Command
-line_command ps =
+-- the format that is named, where one is
+abbrev pub form_in : List Said → Option Form
+form_in ps = option_and_then form_named (value ps (codes "--format"))
+
+-- what else is asked for of lines
+abbrev pub other_command : List Said → Command
+other_command ps =
     if has ps (codes "--typed") then command.Typed else
     if has ps (codes "--short") then command.Short else
     if has ps (codes "--find") then found_command ps else
     if has ps (codes "--json") then command.Objects else
     if has ps (codes "--unique") then command.Unique else
     if has ps (codes "--with-input") then command.ReportWithInput else command.Report
+
+-- what is asked for of lines
+abbrev pub line_command : List Said → Command
+line_command ps = either command.Written (form_in ps) (other_command ps)
 
 -- what is asked for: help before the version, that before the regions, these before what reads
 -- numbers; of that a table, where its column is named, or else lines
@@ -111,7 +121,8 @@ named_or w f other (Some word) = either Ok (f word) (Err (fault_at w word))
 abbrev pub known : List Said → Rules → Result Rules Fault
 known ps Library = Ok Library
 known ps Crate = either (λ name. Err (fault_at why.LibraryAlone name))
-    (find (has ps) (codes "--typed" ∷ codes "--short" ∷ codes "--leniency" ∷ [])) (Ok Crate)
+    (find (has ps) (codes "--typed" ∷ codes "--short" ∷ codes "--leniency" ∷ codes "--format" ∷
+    [])) (Ok Crate)
 
 -- by whose rules numbers are read: by libphonenumber's, unless others are named
 abbrev pub rules_of : List Said → Result Rules Fault
@@ -138,6 +149,18 @@ findless ps =
     then Some record { why = why.Without; word = codes "--leniency"; other = codes "--find" }
     else None
 
+-- no format has a name
+abbrev pub unless_form : List ℕ → Option Fault
+unless_form name = if is_some (form_named name) then None else Some (fault_at why.Format name)
+
+-- no format has the name that is given
+abbrev pub formless : List Said → Option Fault
+formless ps = option_and_then unless_form (value ps (codes "--format"))
+
+-- a level or a format is named wrongly
+abbrev pub misnamed : List Said → Option Fault
+misnamed ps = option_or (findless ps) (formless ps)
+
 -- the level of a name, which may be none
 abbrev pub some_level : List ℕ → Option (Option Level)
 some_level name = option_map Some (level_named name)
@@ -147,9 +170,9 @@ abbrev pub level_in : List Said → Result (Option Level) Fault
 level_in ps = named_or why.Leniency some_level None (value ps (codes "--leniency"))
 
 -- the level by which libphonenumber's matcher finds numbers, where one is named; it goes with
--- `--find`
+-- `--find`. Refused too where a format is named that there isn't
 abbrev pub level_of : List Said → Result (Option Level) Fault
-level_of ps = either Err (findless ps) (level_in ps)
+level_of ps = either Err (misnamed ps) (level_in ps)
 
 -- the operand that a part is
 abbrev pub operand_in : Said → Option (List ℕ)
@@ -229,6 +252,8 @@ pub record IsFurther (ps : List Said) (f : Further) : Type 0 where
   pub extension : f.extension ≡ has ps (codes "--extension")
   pub calling_code : f.calling_code ≡ has ps (codes "--calling-code")
   pub national_number : f.national_number ≡ has ps (codes "--national-number")
+  pub possibility : f.possibility ≡ has ps (codes "--possibility")
+  pub area_code : f.area_code ≡ has ps (codes "--area-code")
   pub suspicion : f.suspicion ≡ has ps (codes "--suspicion")
   pub split : f.split ≡ has ps (codes "--split")
 

@@ -1,4 +1,5 @@
--- The values that words are: rules, levels, encodings, counts of lines, bytes between fields.
+-- The values that words are: rules, levels, formats, encodings, counts of lines, bytes between
+-- fields.
 use Rattle.std.specs.Prelude.{ℕ, ◌&&◌, nat_lt, List, [], ◌∷◌, codes, if◌then◌else◌}
 use Rattle.std.specs.Prelude.{Option, Some, None, option_map}
 use Rattle.std.specs.Str.{bytes_eq, str_eq_ignore_ascii_case}
@@ -9,6 +10,10 @@ use Rattle.phone_encodings.specs.declared.encoding.Order.TheVariants.{LowFirst, 
 use Rattle.phone_values.specs.Numbers.{number_in}
 use Rattle.phone_values.specs.declared.rules.Rules.{Rules}
 use Rattle.phone_values.specs.declared.rules.Rules.TheVariants as rules
+use Rattle.phone_values.specs.declared.mode.Mode.TheVariants.{E164, International, National}
+use Rattle.phone_values.specs.declared.mode.Mode.TheVariants.{Rfc3966}
+use Rattle.phone_words.specs.declared.values.Form.{Form}
+use Rattle.phone_words.specs.declared.values.Form.TheVariants as form
 use Rattle.phone_words.specs.declared.values.Level.{Level}
 use Rattle.phone_words.specs.declared.values.Level.TheVariants as level
 
@@ -25,6 +30,16 @@ level_named name =
     if bytes_eq name (codes "valid") then Some level.Valid else
     if bytes_eq name (codes "strict-grouping") then Some level.StrictGrouping else
     if bytes_eq name (codes "exact-grouping") then Some level.ExactGrouping else None
+
+-- the format of this name
+abbrev pub form_named : List ℕ → Option Form
+form_named name =
+    if bytes_eq name (codes "e164") then Some (form.In E164) else
+    if bytes_eq name (codes "international") then Some (form.In International) else
+    if bytes_eq name (codes "national") then Some (form.In National) else
+    if bytes_eq name (codes "rfc3966") then Some (form.In Rfc3966) else
+    if bytes_eq name (codes "original") then Some form.Original else
+    if bytes_eq name (codes "mobile") then Some form.Mobile else None
 
 -- the encoding of this name, in capital or small letters, other than UTF-8
 abbrev pub other_named : List ℕ → Option Encoding

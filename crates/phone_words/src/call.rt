@@ -1,8 +1,9 @@
 //! Words as a call: what is asked for, with what it needs.
 ghost use Rattle.std.specs.Prelude.{◌≡◌, ◌⊎◌, IfErr, IfOk, Err, option_map};
 ghost use Rattle.phone_words.specs.Calls.{IsCall, IsCallIn, IsNoCall, delimiter_of, encoding_of};
-ghost use Rattle.phone_words.specs.Calls.{findless, known, level_in, level_of, meaning_in};
-ghost use Rattle.phone_words.specs.Calls.{rules_of, skipped_of};
+ghost use Rattle.phone_words.specs.Calls.{findless, formless, known, level_in, level_of};
+ghost use Rattle.phone_words.specs.Calls.{meaning_in, misnamed, rules_of, skipped_of};
+ghost use Rattle.phone_words.specs.Calls.{unless_form};
 ghost use Rattle.phone_words.specs.Parts.{all_said, fault, told};
 ghost use Rattle.phone_words.specs.Rows.{texts_of};
 ghost use Rattle.phone_words.specs.declared.parts.Why.TheVariants as why;
@@ -12,7 +13,7 @@ use crate::options::{has, is_run, misfit, operands_in, value};
 use crate::parts::{Part, Why, WordError, error_at, parts_of};
 use crate::table::{Table, table_of};
 use crate::values::{
-    Level, count_named, delimiter_named, encoding_named, level_named, rules_named,
+    Level, count_named, delimiter_named, encoding_named, form_named, level_named, rules_named,
 };
 use phone_encodings::Encoding;
 use phone_values::Rules;
@@ -123,6 +124,7 @@ fn known<'w>(parts: &[Part<'w>], rules: Rules) -> Result<Rules, WordError<'w>>
         Rules::Crate if has(parts, "--typed") => Err(error_at(Why::LibraryAlone, "--typed")),
         Rules::Crate if has(parts, "--short") => Err(error_at(Why::LibraryAlone, "--short")),
         Rules::Crate if has(parts, "--leniency") => Err(error_at(Why::LibraryAlone, "--leniency")),
+        Rules::Crate if has(parts, "--format") => Err(error_at(Why::LibraryAlone, "--format")),
         Rules::Crate => Ok(rules),
     }
 }
@@ -196,6 +198,36 @@ fn findless<'w>(parts: &[Part<'w>]) -> Option<WordError<'w>>
     None
 }
 
+/// Why a word names no format; none where it names one.
+fn unless_form<'w>(name: &'w str) -> Option<WordError<'w>>
+    ensures { option_map fault result ≡ unless_form name.now }
+{
+    match form_named(name) {
+        Some(_) => None,
+        None => Some(error_at(Why::Format, name)),
+    }
+}
+
+/// Why a format is named that there isn't; none where that isn't so.
+fn formless<'w>(parts: &[Part<'w>]) -> Option<WordError<'w>>
+    ensures { option_map fault result ≡ formless (all_said parts.now) }
+{
+    match value(parts, "--format") {
+        Some(name) => unless_form(name),
+        None => None,
+    }
+}
+
+/// Why a level or a format is named wrongly; none where that isn't so.
+fn misnamed<'w>(parts: &[Part<'w>]) -> Option<WordError<'w>>
+    ensures { option_map fault result ≡ misnamed (all_said parts.now) }
+{
+    match findless(parts) {
+        Some(error) => Some(error),
+        None => formless(parts),
+    }
+}
+
 /// The level that is named, where one is.
 fn level_in<'w>(parts: &[Part<'w>]) -> Result<Option<Level>, WordError<'w>>
     ensures { told result ≡ level_in (all_said parts.now) }
@@ -210,11 +242,11 @@ fn level_in<'w>(parts: &[Part<'w>]) -> Result<Option<Level>, WordError<'w>>
 }
 
 /// The level by which libphonenumber's matcher finds numbers, where one is named; it goes with
-/// `--find`.
+/// `--find`. Refused too where a format is named that there isn't.
 fn level_of<'w>(parts: &[Part<'w>]) -> Result<Option<Level>, WordError<'w>>
     ensures { told result ≡ level_of (all_said parts.now) }
 {
-    match findless(parts) {
+    match misnamed(parts) {
         Some(error) => Err(error),
         None => level_in(parts),
     }

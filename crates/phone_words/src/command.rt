@@ -1,10 +1,12 @@
 //! What options ask for.
 ghost use Rattle.std.specs.Prelude.{◌≡◌};
-ghost use Rattle.phone_words.specs.Calls.{command_of, found_command, line_command};
+ghost use Rattle.phone_words.specs.Calls.{command_of, form_in, found_command, line_command};
+ghost use Rattle.phone_words.specs.Calls.{other_command};
 ghost use Rattle.phone_words.specs.Parts.{all_said};
 
-use crate::options::{has, lacks};
+use crate::options::{has, lacks, value};
 use crate::parts::Part;
+use crate::values::{Form, form_named};
 
 /// What is asked for.
 #[derive(Clone, Copy, PartialEq, Eq, Debug)]
@@ -33,6 +35,8 @@ pub enum Command {
     Typed,
     /// What is known of each line as a short number.
     Short,
+    /// The text of each line's number in a format.
+    Written(Form),
     /// A table of customers with what is known of their numbers.
     Table,
 }
@@ -50,9 +54,29 @@ fn found_command(parts: &[Part<'_>]) -> Command
     Command::Find
 }
 
+/// The format that is named, where one is.
+fn form_in(parts: &[Part<'_>]) -> Option<Form>
+    ensures { result ≡ form_in (all_said parts.now) }
+{
+    match value(parts, "--format") {
+        Some(name) => form_named(name),
+        None => None,
+    }
+}
+
 /// What is asked for of lines.
 fn line_command(parts: &[Part<'_>]) -> Command
     ensures { result ≡ line_command (all_said parts.now) }
+{
+    match form_in(parts) {
+        Some(form) => Command::Written(form),
+        None => other_command(parts),
+    }
+}
+
+/// What else is asked for of lines.
+fn other_command(parts: &[Part<'_>]) -> Command
+    ensures { result ≡ other_command (all_said parts.now) }
 {
     if has(parts, "--typed") {
         return Command::Typed;

@@ -17,4 +17,4 @@ pub use parts::{Why, WordError};
 pub use rows::value_word;
 pub use table::{Further, Table};
 pub use usage::help;
-pub use values::Level;
+pub use values::{Form, Level};

@@ -39,6 +39,8 @@ pub enum Why {
     Encoding,
     /// There is no level of the word's name.
     Leniency,
+    /// There is no format of the word's name.
+    Format,
     /// The word's option knows libphonenumber's rules alone.
     LibraryAlone,
     /// There was no memory for the words.

@@ -45,11 +45,11 @@ macro_rules! rows {
 
 /// The first options, each by its name, its name of one letter, what its value is, the word beside
 /// which it counts, what it needs, what it doesn't go with, and its help.
-const ROWS: [Cells; 21] = rows! {
+const ROWS: [Cells; 22] = rows! {
     "--json" "" "" "" [] ["--unique" "--typed" "--short"] "
-      a JSON object a line: the line's number and text, and the fields that --csv gives; with
-      --find an object for each number: line, column, text, those fields but the refusal, and
-      extension"
+      a JSON object a line: the line's number and text, the fields that --csv gives, and
+      calling_code, national_number, possibility and area_code; with --find an object for each
+      number: line, column, text, those fields but the refusal, and extension"
     "--find" "" "" "" [] ["--unique" "--typed" "--short"] "
       finds the valid numbers in running text, and writes for each its line, its column, its E.164
       text and the piece of the text, parted by tabs; the file's name before them where several are
@@ -68,6 +68,11 @@ const ROWS: [Cells; 21] = rows! {
       fields than the first ends the run"
     "--with-input" "" "" "" [] ["--csv" "--json" "--find" "--unique" "--typed" "--short"] "
       ends each report line with a tab and the line as it came"
+    "--format" "" "FORMAT" "" []
+        ["--csv" "--json" "--find" "--unique" "--with-input" "--typed" "--short"] "
+      writes in place of the report each number's text alone: e164, international, national or
+      rfc3966; original, in the format in which it was written; or mobile, as a mobile phone in
+      REGION dials it, empty where it can't. A line without a number is answered as by the report"
     "--unique" "" "" "" [] ["--typed" "--short"] "
       writes in place of the report the first line of each number: its E.164 text and, behind
       ;ext=, its extension, a tab, the line as it came. With --csv it leaves out each record whose
@@ -118,7 +123,7 @@ const ROWS: [Cells; 21] = rows! {
 };
 
 /// The other options: a constant of all would be too great for the prover.
-const MORE: [Cells; 23] = rows! {
+const MORE: [Cells; 25] = rows! {
     "--language" "" "LANG" "" ["--csv" "--places"] [] "
       the language of areas and carriers, as de, pt-BR or zh_TW; where it has no text it is told in
       English, unless it is Chinese, Japanese or Korean"
@@ -129,6 +134,11 @@ const MORE: [Cells; 23] = rows! {
       one of its calling code, calling_code"
     "--national-number" "" "" "" ["--csv"] [] "
       one of its digits behind the calling code, leading zeros with them, national_number"
+    "--possibility" "" "" "" ["--csv"] [] "
+      one of what the count of those digits says, possibility: possible, possible-locally, which
+      suffices within an area, too-short, too-long, wrong-length or unknown-code"
+    "--area-code" "" "" "" ["--csv"] [] "
+      one of those digits that are the code of its area, area_code; empty where it has none"
     "--suspicion" "" "" "" ["--csv"] [] "
       one of what is suspicious about the field, in words that change no answer, empty for most:
       float, no-plus, zero-in-brackets, letters, two-numbers, date, zero-lost, other-region"

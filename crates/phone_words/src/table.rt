@@ -60,6 +60,10 @@ pub struct Further<'w> {
     pub calling_code: bool,
     /// Whether national numbers are.
     pub national_number: bool,
+    /// Whether what the count of their digits says is.
+    pub possibility: bool,
+    /// Whether area codes are.
+    pub area_code: bool,
     /// Whether words of what is suspicious are.
     pub suspicion: bool,
     /// Whether the two numbers of a field that has two are.
@@ -107,6 +111,8 @@ fn further_of<'w>(parts: &[Part<'w>]) -> Further<'w>
         extension: has(parts, "--extension"),
         calling_code: has(parts, "--calling-code"),
         national_number: has(parts, "--national-number"),
+        possibility: has(parts, "--possibility"),
+        area_code: has(parts, "--area-code"),
         suspicion: has(parts, "--suspicion"),
         split: has(parts, "--split"),
     }

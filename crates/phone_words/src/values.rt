@@ -1,11 +1,12 @@
-//! The values that words are: rules, levels, encodings, counts of lines, bytes between fields.
+//! The values that words are: rules, levels, formats, encodings, counts of lines, bytes between
+//! fields.
 ghost use Rattle.std.specs.Prelude.{◌≡◌};
 ghost use Rattle.phone_words.specs.Values.{count_named, delimiter_named, encoding_named};
-ghost use Rattle.phone_words.specs.Values.{level_named, other_named, rules_named};
+ghost use Rattle.phone_words.specs.Values.{form_named, level_named, other_named, rules_named};
 
 use phone_csv::is_delimiter;
 use phone_encodings::{Encoding, Order};
-use phone_values::Rules;
+use phone_values::{Mode, Rules};
 
 /// The rules of this name: `library` those of libphonenumber, `crate` those of the crate
 /// `phonenumber` of Rust.
@@ -41,6 +42,32 @@ pub(crate) fn level_named(name: &str) -> Option<Level>
         "valid" => Some(Level::Valid),
         "strict-grouping" => Some(Level::StrictGrouping),
         "exact-grouping" => Some(Level::ExactGrouping),
+        _ => None,
+    }
+}
+
+/// How the number of a line is written.
+#[derive(Clone, Copy, PartialEq, Eq, Debug)]
+pub enum Form {
+    /// In a mode.
+    In(Mode),
+    /// In the format in which it was written.
+    Original,
+    /// As a mobile phone dials it.
+    Mobile,
+}
+
+/// The format of this name.
+pub(crate) fn form_named(name: &str) -> Option<Form>
+    ensures { result ≡ form_named name.now }
+{
+    match name {
+        "e164" => Some(Form::In(Mode::E164)),
+        "international" => Some(Form::In(Mode::International)),
+        "national" => Some(Form::In(Mode::National)),
+        "rfc3966" => Some(Form::In(Mode::Rfc3966)),
+        "original" => Some(Form::Original),
+        "mobile" => Some(Form::Mobile),
         _ => None,
     }
 }

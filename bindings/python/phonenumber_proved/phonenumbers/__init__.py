@@ -12,9 +12,9 @@ there is `install()`:
     >>> phonenumbers.is_valid_number(number), phonenumbers.region_code_for_number(number)
     (True, 'GB')
 
-What is read, printed, found in texts and told of kind, region, validity, count of digits and short
-numbers is what the library's calls answer, by libphonenumber's rules; so are areas' lengths, kinds
-of regions, matches, and what is of one region or code. Lists of regions are Python over the table,
+What is parsed, formatted, found in texts and told of kind, region, validity, count of digits and
+short numbers is what the library's calls answer, by libphonenumber's rules; so are areas' lengths,
+kinds of regions, matches, and what is of one region or code. Lists of regions are Python over the table,
 of which nothing is proved. The first call opens a table of some 6 MB, which
 all threads have, and the child of a fork after it.
 

@@ -1,10 +1,10 @@
-//! How numbers are printed.
+//! How numbers are formatted.
 use super::metadata::{DATABASE, Database, Format, loader};
 use super::{Mode, PhoneNumber};
 use crate::database::Rules;
 use std::fmt;
 
-/// The printer of a number in a mode.
+/// The formatter of a number in a mode.
 #[derive(Clone, Copy, Debug)]
 pub struct Formatter<'n, 'd, 'f> {
     number: &'n PhoneNumber,
@@ -13,29 +13,29 @@ pub struct Formatter<'n, 'd, 'f> {
     format: Option<&'f Format>,
 }
 
-/// The printer of a number, by E.164 until `mode` asks for another.
+/// The formatter of a number, by E.164 until `mode` asks for another.
 pub fn format(number: &PhoneNumber) -> Formatter<'_, 'static, 'static> {
     Formatter { number, database: None, mode: Mode::E164, format: None }
 }
 
-/// The printer of a number by these metadata.
+/// The formatter of a number by these metadata.
 pub fn format_with<'d, 'n>(database: &'d Database, number: &'n PhoneNumber) -> Formatter<'n, 'd, 'static> {
     Formatter { number, database: Some(database), mode: Mode::E164, format: None }
 }
 
 impl<'n, 'd, 'f> Formatter<'n, 'd, 'f> {
-    /// The same printer by these metadata.
+    /// The same formatter by these metadata.
     pub fn database<'a>(self, database: &'a Database) -> Formatter<'n, 'a, 'f> {
         Formatter { number: self.number, database: Some(database), mode: self.mode, format: self.format }
     }
 
-    /// The same printer in another mode.
+    /// The same formatter in another mode.
     pub fn mode(mut self, mode: Mode) -> Formatter<'n, 'd, 'f> {
         self.mode = mode;
         self
     }
 
-    /// The same printer by this format, whatever its leading digits. Each text opens a database of it.
+    /// The same formatter by this format, whatever its leading digits. Each text opens a database of it.
     ///
     /// ```
     /// use phonenumber_proved::compat::{Mode, metadata::DATABASE, parse};
@@ -43,8 +43,8 @@ impl<'n, 'd, 'f> Formatter<'n, 'd, 'f> {
     /// let format = &DATABASE.by_id("US").unwrap().formats()[0];
     /// let metadata = DATABASE.by_id("NZ").unwrap();
     /// let of_mobile_phones = metadata.formats().iter().find(|it| it.format() == "$1 $2 $3").unwrap();
-    /// let printed = number.format().mode(Mode::International).with(of_mobile_phones);
-    /// assert_ne!(printed.to_string(), number.format().mode(Mode::International).to_string());
+    /// let text = number.format().mode(Mode::International).with(of_mobile_phones);
+    /// assert_ne!(text.to_string(), number.format().mode(Mode::International).to_string());
     /// # let _ = format;
     /// ```
     pub fn with<'a>(self, format: &'a Format) -> Formatter<'n, 'd, 'a> {

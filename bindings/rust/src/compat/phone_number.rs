@@ -74,12 +74,12 @@ impl PhoneNumber {
         self.carrier.as_ref()
     }
 
-    /// The printer of the number, by E.164 until `mode` asks for another.
+    /// The formatter of the number, by E.164 until `mode` asks for another.
     pub fn format(&self) -> Formatter<'_, 'static, 'static> {
         formatter::format(self)
     }
 
-    /// The printer of the number by these metadata.
+    /// The formatter of the number by these metadata.
     pub fn format_with<'n, 'd>(&'n self, database: &'d Database) -> Formatter<'n, 'd, 'static> {
         formatter::format_with(database, self)
     }

@@ -19,7 +19,7 @@ pub(super) trait Value: Sized {
     }
 }
 
-/// What a text is refused for whose values are of the wrong kind, and one that is no JSON.
+/// The error of a text whose values are of the wrong kind, and of one that is no JSON.
 const WRONG_KIND: LoadError = LoadError::Database(Error::Database(11));
 const NO_JSON: LoadError = LoadError::Database(Error::Database(10));
 
@@ -136,7 +136,7 @@ fn unhandled(phase: &str, name: &str) -> LoadError {
 }
 
 record! {
-    /// The record of a territory. Without `id`, `country_code` or `general` it is refused.
+    /// The record of a territory. Without `id`, `country_code` or `general` it is an error.
     Metadata, "territory" {
         general: Option<Descriptor>,
         fixed_line: Option<Descriptor>,
@@ -171,7 +171,7 @@ record! {
 }
 
 record! {
-    /// The record of a number format. Without `pattern` or `format` it is refused.
+    /// The record of a number format. Without `pattern` or `format` it is an error.
     Format, "format" {
         pattern: Option<String>,
         format: Option<String>,
@@ -183,7 +183,7 @@ record! {
 }
 
 record! {
-    /// The record of a kind's numbers. Without `national_number` it is refused.
+    /// The record of a kind's numbers. Without `national_number` it is an error.
     Descriptor, "descriptor" {
         national_number: Option<String>,
         possible_length: Vec<u16>,

@@ -261,7 +261,7 @@ impl Metadata {
         self.mobile_number_portable
     }
 
-    /// The record by which a number of this calling code is printed by one format alone.
+    /// The record by which a number of this calling code is formatted by one format alone.
     pub(super) fn printing(&self, format: &Format) -> loader::Metadata {
         let any = loader::Descriptor { national_number: Some("1".to_owned()), ..loader::Descriptor::default() };
         loader::Metadata {

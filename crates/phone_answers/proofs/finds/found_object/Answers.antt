@@ -1,4 +1,4 @@
-use Rattle.std.proofs.Common.{◌∙◌, ap₂}
+use Rattle.std.proofs.Common.{◌∙◌, ap}
 use Rattle.serde_json.specs.Written.{compact_text}
 use Rattle.phone_answers.specs.Finds.{object_of_found}
 use Rattle.phone_answers.proofs.finds.found_object.Goals as goal
@@ -8,5 +8,5 @@ returns-in-Ok-clause-object c =
     let a = c.in_ok-known.ensures.spelled in (
       a.0,
       a.1,
-      c.in-Ok.ensures ∙ ap₂ (λ e f. compact_text (object_of_found c.args.spot e f)) c.extension_of.ensures a.2,
+      c.in-Ok.ensures ∙ ap (λ f. compact_text (object_of_found c.args.engine.rules c.args.engine.database.now c.args.spot c.args.number.now f)) a.2,
     )

@@ -4,6 +4,7 @@ use Rattle.phone_commands.specs.declared.reader.Reader.{Reader}
 use Rattle.phone_cli.specs.Answers.{is_table}
 use Rattle.phone_cli.proofs.RunLemmas.{finds_by, is_report, lines_ran}
 use Rattle.phone_cli.proofs.RunLemmas.{objects_runs, report_runs, typed_runs, with_input_runs}
+use Rattle.phone_cli.proofs.RunLemmas.{written_runs}
 use Rattle.phone_cli.proofs.tool.by_reader.Goals as goal
 
 pub returns-in-ReportWithInput : goal.returns-in-ReportWithInput
@@ -14,6 +15,15 @@ returns-in-ReportWithInput g c = λ reads loaded.
     (ap is_table c.in-ReportWithInput.is) run.4 (with_input_runs _ _ _
     (record { engine = c.reader_of-reader.result.engine }) _ _ run.1 _
     c.in-ReportWithInput.is made.rules made.hint run.3))
+
+pub returns-in-Written : goal.returns-in-Written
+returns-in-Written g c = λ reads loaded.
+    let made = c.reader_of-reader.ensures in
+    let run = c.run_lines-in-Written.ensures in
+    rw run.5 (lines_ran _ _ _ _ _ run.2 run.0
+    (ap is_table c.in-Written.is) run.4 (written_runs _ _ _
+    (record { engine = c.reader_of-reader.result.engine; form = c.in-Written.form }) _ _ run.1 _
+    c.in-Written.is made.rules made.hint run.3))
 
 pub returns-in-Objects : goal.returns-in-Objects
 returns-in-Objects g c = λ reads loaded.
@@ -48,7 +58,8 @@ returns-in_default g c = λ reads loaded.
     let made = c.reader_of-reader.ensures in
     let run = c.run_lines-in_default.ensures in
     let is = is_report _ reads other.not-Objects other.not-Find other.not-FoundObjects
-    other.not-FoundRecords other.not-Typed other.not-Table other.not-ReportWithInput in
+    other.not-FoundRecords other.not-Typed other.not-Table other.not-ReportWithInput
+    other.not-Written in
     rw run.5 (lines_ran _ _ _ _ _ run.2 run.0
     (ap is_table is) run.4 (report_runs _ _ _
     (record { reader = c.reader_of-reader.result }) _ _ run.1 _ is made.rules made.hint run.3))

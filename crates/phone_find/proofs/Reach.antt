@@ -1,0 +1,54 @@
+-- How far a piece that may be a number reaches.
+use Rattle.std.proofs.Common.{◌≡◌, ℕ, ◌-◌, ◌<◌, ◌≤◌, Bool, true, false, List, [], ◌∷◌, ◌++◌, drop, leb, length, slice_range, take}
+use Rattle.std.proofs.Common.{IsCharBoundary, IsUtf8, append_assoc, ap, sym, subst, ◌∙◌, refl, arith, length-append}
+use Rattle.std.proofs.lemmas.Bool.{leb-false, leb-true}
+use Rattle.std.proofs.lemmas.List.{length-drop, nil_from_length, take-append-drop}
+use Rattle.std.proofs.lemmas.Str.{IsCharBoundary-at_seam, IsUtf8-drop, IsUtf8-take, chars-append}
+use Rattle.std.proofs.Math.Seq.{take-append_seam}
+use Rattle.std.specs.Str.{chars}
+use Rattle.phone_chars.specs.Cuts.{IsEnd}
+use Rattle.phone_finder_text.specs.Numbers.{is_candidate}
+use Rattle.phone_finder_text.specs.Shapes.{has_few_digits}
+use Rattle.phone_parts.proofs.Cores.{nil_from_chars}
+use Rattle.phone_parts.proofs.Longest.{cuts_meet}
+use Rattle.phone_find.proofs.Begins.{candidate_shape, read_piece}
+
+utf8_before : (whole front rest : List ℕ) → whole ≡ front ++ rest → IsUtf8 whole → IsUtf8 rest → IsUtf8 front
+utf8_before whole front rest is u w =
+    subst IsUtf8 (ap (λ t. take (length front) t) is ∙ take-append_seam front rest)
+    (IsUtf8-take whole (length front) u (IsCharBoundary-at_seam whole front rest is w))
+
+-- of two ends of a text the one with no more characters has no more bytes
+fewer_bytes : (text a b x y : List ℕ) → text ≡ a ++ x → text ≡ b ++ y → IsUtf8 x → IsUtf8 y → length (chars x) ≤ length (chars y) →
+    length x ≤ length y
+fewer_bytes text a b x y by_x by_y u w few = by_length (leb (length x) (length y)) refl
+  where
+    longer : length y < length x → length x ≤ length y
+    longer more =
+        let same : b ++ y ≡ a ++ x = sym by_y ∙ by_x in
+        let long : length a ≤ length b = omega (arith, ap length same, length-append a x, length-append b y, more) in
+        let m = cuts_meet b y a x same long in
+        let v = utf8_before x m.0 y m.2 u w in
+        let read = ap chars m.2 ∙ chars-append m.0 y v in
+        let none : length (chars m.0) ≡ 0 = omega (arith, ap length read, length-append (chars m.0) (chars y), few) in
+        let empty = nil_from_chars m.0 v (nil_from_length (chars m.0) none) in
+        omega (arith, ap length m.2, length-append m.0 y, ap length empty)
+
+    by_length : (e : Bool) → leb (length x) (length y) ≡ e → length x ≤ length y
+    by_length true e = leb-true (length x) (length y) e
+    by_length false e = longer (leb-false (length x) (length y) e)
+
+-- none ends behind the digit that is one too many
+pub candidate_reach : (text : List ℕ) (start end : ℕ) (rest : List ℕ) → IsUtf8 text → start < end → IsCharBoundary text start →
+    IsCharBoundary text end → IsUtf8 rest → IsEnd (drop start text) rest →
+    ((piece after : List ℕ) → chars (drop start text) ≡ piece ++ after → has_few_digits piece ≡ true → length (chars rest) ≤ length after) →
+    is_candidate (chars (take start text)) (chars (slice_range text start end)) (chars (drop end text)) ≡ true →
+    end ≤ length text - length rest
+candidate_reach text start end rest u some from to w is bound candidate =
+    let piece = slice_range text start end in
+    let after = drop end text in
+    let few = (candidate_shape (chars (take start text)) (chars piece) (chars after) candidate).0 in
+    let fewer = bound (chars piece) (chars after) (read_piece text start end u some from to) few in
+    let bytes = fewer_bytes text (take start text ++ is.0) (take end text) rest after (sym (take-append-drop start text) ∙ ap (λ t. take start text ++ t) is.1
+    ∙ sym (append_assoc (take start text) is.0 rest)) (sym (take-append-drop end text)) w (IsUtf8-drop text end u to) fewer in
+    omega (arith, bytes, length-drop end text, to.0)
