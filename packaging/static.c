@@ -51,6 +51,23 @@ static int descriptor_of(int which) {
     return fd < 0 || lseek(fd, 0, SEEK_SET) < 0 ? -1 : fd;
 }
 
+#if defined(__x86_64__) && !defined(__GLIBC__)
+#include <cpuid.h>
+/* What main of phone_apps asks of glibc, and musl hasn't: which instructions the processor has, by the numbers that <sys/platform/x86.h>
+ * gives to what cpuid tells (0 for leaf 1, 2 for leaf 0x80000001), and write. Main asks for none whose use a system has to allow. */
+struct cpuid_feature { unsigned cpuid_array[4], active_array[4]; };
+const struct cpuid_feature *__x86_get_cpuid_feature_leaf(unsigned which) {
+    static struct cpuid_feature told[2], none;
+    if (which != 0 && which != 2) return &none;
+    struct cpuid_feature *it = &told[which / 2];
+    unsigned *of = it->active_array;
+    if (!__get_cpuid(which ? 0x80000001 : 1, of, of + 1, of + 2, of + 3)) return &none;
+    memcpy(it->cpuid_array, of, sizeof it->cpuid_array);
+    return it;
+}
+ssize_t __write(int fd, const void *bytes, size_t count) { return write(fd, bytes, count); }
+#endif
+
 /* C's open, for the program: of a table the table, else the file. The linker puts it in its place (--wrap). */
 int __real_open(const char *path, int flags, ...);
 int __wrap_open(const char *path, int flags, ...) {
