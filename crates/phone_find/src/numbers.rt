@@ -33,8 +33,8 @@ impl<'d> Judge<PhoneNumber> for Sufficient<'d> {
     }
 
     fn reach(&self, text: &str, start: usize) -> usize {
-        text.len()
-            .saturating_sub(from_too_many(&text[start..]).len())
+        let most = text.floor_char_boundary(start.saturating_add(250));
+        most.saturating_sub(from_too_many(&text[start..most]).len())
     }
 
     fn judge(
