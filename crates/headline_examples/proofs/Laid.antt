@@ -7,16 +7,18 @@ use Rattle.std.specs.List.{find, list_all}
 use Rattle.std.specs.Option.{option_map_or, option_or}
 use Rattle.regex.proofs.OnLiterals.{regex_on_literals, IsReadAs, ◌then◌, alone, alt-fail}
 use Rattle.regex.specs.Patterns.{Re, find_str}
-use Rattle.phone_values.specs.declared.mode.Mode.TheVariants.{International, Rfc3966}
+use Rattle.phone_values.specs.declared.mode.Mode.TheVariants.{International, National, Rfc3966}
 use Rattle.phone_territory.specs.First.{Seen, at_start, first_match, first_span, is_whole_match}
 use Rattle.phone_territory.specs.First.{names_in, replaced}
 use Rattle.phone_territory.specs.First.{seen_of, verbose, with_first_replaced}
 use Rattle.phone_print.specs.Layouts.{laid}
-use Rattle.phone_print.specs.Texts.{laid_out}
+use Rattle.phone_print.specs.Texts.{laid_out, laid_out_by}
+use Rattle.phone_values.specs.declared.rules.Rules.{Rules}
+use Rattle.phone_values.specs.declared.rules.Rules.TheVariants.{Library, Crate}
 use Rattle.phone_territory.specs.Layouts.{layout_pattern, suits}
 use Rattle.headline_examples.proofs.Digits.{digit, groups, nd_ranges, read_groups-groups, run, runs}
 use Rattle.headline_examples.proofs.Searches.{searching, first_match-as_read}
-use Rattle.headline_examples.specs.Samples.{ad, am, announcing, at, at_by_x, number}
+use Rattle.headline_examples.specs.Samples.{ad, am, announcing, at, at_by_x, layout, number}
 use Rattle.headline_examples.specs.Samples.{long_layout, long_number, long_numbers, nz, nz_layout, us}
 
 -- a pattern's text is read as a tree with so many groups, none of which has a name
@@ -79,11 +81,25 @@ nz_laid e =
     laid layout nz International None (codes "33316005")) (ap₂ ◌&&◌ led whole)
     ∙ replaced-as_read nz_tree (codes "$1 $2 $3") (codes "33316005") (codes "3 331 6005") refl refl
 
--- the text of RFC 3966 has the same layout
-pub nz_laid_rfc3966 : (e : Option (List ℕ)) →
-    laid_out nz Rfc3966 None (number 64 0 33316005 e) ≡ codes "3 331 6005"
+-- by libphonenumber's rules as well: the match is the whole
+pub nz_laid_by : (rules : Rules) (e : Option (List ℕ)) →
+    laid_out_by rules nz International None (number 64 0 33316005 e) ≡ codes "3 331 6005"
 unfolding searching nd_ranges digits
-nz_laid_rfc3966 e =
+nz_laid_by Library e =
+    ap (λ b. let layout = option_or None (if b then Some nz_layout else None) in
+    laid layout nz International None (codes "33316005")) (ap₂ ◌&&◌ led whole)
+    ∙ replaced-as_read nz_tree (codes "$1 $2 $3") (codes "33316005") (codes "3 331 6005") refl refl
+nz_laid_by Crate e = nz_laid e
+
+-- the text of RFC 3966 has the same layout
+pub nz_laid_rfc3966 : (rules : Rules) (e : Option (List ℕ)) →
+    laid_out_by rules nz Rfc3966 None (number 64 0 33316005 e) ≡ codes "3 331 6005"
+unfolding searching nd_ranges digits
+nz_laid_rfc3966 Library e =
+    ap (λ b. let layout = option_or None (if b then Some nz_layout else None) in
+    laid layout nz Rfc3966 None (codes "33316005")) (ap₂ ◌&&◌ led whole)
+    ∙ replaced-as_read nz_tree (codes "$1 $2 $3") (codes "33316005") (codes "3 331 6005") refl refl
+nz_laid_rfc3966 Crate e =
     ap (λ b. let layout = option_or None (if b then Some nz_layout else None) in
     laid layout nz Rfc3966 None (codes "33316005")) (ap₂ ◌&&◌ led whole)
     ∙ replaced-as_read nz_tree (codes "$1 $2 $3") (codes "33316005") (codes "3 331 6005") refl refl
@@ -146,6 +162,19 @@ spaced_laid id code prefix e =
 pub halves_whole : is_whole_match (codes "(\\d{3})(\\d{3})") (codes "123456") ≡ true
 unfolding searching nd_ranges
 halves_whole = is_whole_match-as_read halves (codes "123456") refl refl
+
+-- so that libphonenumber's rules lay them out so as well, abroad and at home
+pub spaced_laid_by : (rules : Rules) (id : List ℕ) (code : ℕ) (prefix : List ℕ)
+    (e : Option (List ℕ)) →
+    laid_out_by rules (announcing id code (codes "$1 $2") prefix) National None
+    (number code 0 123456 e) ≡ codes "123 456"
+unfolding searching nd_ranges digits
+spaced_laid_by Library id code prefix e =
+    ap (λ b. let chosen = option_or None (if b then Some (layout (codes "(\\d{3})(\\d{3})") (codes "$1 $2")) else None) in
+    laid chosen (announcing id code (codes "$1 $2") prefix) National None (codes "123456"))
+    halves_whole
+    ∙ replaced-as_read halves (codes "$1 $2") (codes "123456") (codes "123 456") refl refl
+spaced_laid_by Crate id code prefix e = spaced_laid id code prefix e
 
 pub at_by_x_laid : (e : Option (List ℕ)) →
     laid_out at_by_x International None (number 43 0 123456 e) ≡ codes "123/456/"

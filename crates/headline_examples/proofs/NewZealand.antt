@@ -6,7 +6,8 @@ use Rattle.std.specs.Str.{chars}
 use Rattle.phone_values.specs.declared.mode.Mode.TheVariants.{International}
 use Rattle.phone_library_text.specs.Written.{most_characters}
 use Rattle.phone_plans.specs.CodeLookUps.{begins}
-use Rattle.phone_print.specs.Texts.{laid_out}
+use Rattle.phone_print.specs.Texts.{laid_out_by}
+use Rattle.phone_values.specs.declared.rules.Rules.{Rules}
 use Rattle.phone_parts.proofs.PrintedInternational.{digit_nd}
 use Rattle.phonenumber.proofs.BackTexts.{IsUtf8-low}
 use Rattle.phone_library_back.proofs.Prefixes.{announced_by_default}
@@ -15,7 +16,7 @@ use Rattle.phone_library_back.specs.Layouts.{IsLaidOut, is_quiet}
 use Rattle.phone_library_back.specs.Plain.{IsLaidInternational, IsPlainInternational}
 use Rattle.phone_library_laws.specs.Again.{IsSettled}
 use Rattle.headline_examples.proofs.Kept.{stripped_kept}
-use Rattle.headline_examples.proofs.Laid.{nz_laid}
+use Rattle.headline_examples.proofs.Laid.{nz_laid_by}
 use Rattle.headline_examples.specs.Samples.{db_b, extended, number, nz}
 
 pub nz_settled : (e : Option (List ℕ)) → IsSettled db_b (number 64 0 33316005 e)
@@ -44,8 +45,8 @@ five = (
 )
 
 -- the text of the layout
-laid_is : codes "3 331 6005" ≡ laid_out nz International None extended
-laid_is = sym (nz_laid (Some (codes "5")))
+laid_is : (rules : Rules) → codes "3 331 6005" ≡ laid_out_by rules nz International None extended
+laid_is rules = sym (nz_laid_by rules (Some (codes "5")))
 
 quietly : IsLaidOut is_quiet (chars (codes "3 331 6005")) (codes "33316005")
 unfolding chars
@@ -55,20 +56,20 @@ few : length (chars (43 ∷ (decimal 64 ++ 32 ∷ (codes "3 331 6005" ++ codes "
 unfolding chars digits
 few = leb-true _ 250 refl
 
-pub nz_laid_plainly : IsLaidInternational db_b extended
+pub nz_laid_plainly : (rules : Rules) → IsLaidInternational rules db_b extended
 unfolding digits
-nz_laid_plainly = record {
+nz_laid_plainly rules = record {
   territory = nz;
   first = refl;
-  utf8 = subst IsUtf8 laid_is (IsUtf8-low (codes "3 331 6005") refl);
-  laid = subst (λ t. IsLaidOut is_quiet (chars t) (codes "33316005")) laid_is quietly;
+  utf8 = subst IsUtf8 (laid_is rules) (IsUtf8-low (codes "3 331 6005") refl);
+  laid = subst (λ t. IsLaidOut is_quiet (chars t) (codes "33316005")) (laid_is rules) quietly;
   few = subst (λ t. length (chars (43 ∷ (decimal 64 ++ 32 ∷ (t ++ codes " ext. 5")))) ≤ most_characters)
-      laid_is few;
+      (laid_is rules) few;
 }
 
-pub nz_plain : IsPlainInternational db_b extended
+pub nz_plain : (rules : Rules) → IsPlainInternational rules db_b extended
 unfolding nz_laid_plainly
-nz_plain = record {
-  layout = nz_laid_plainly;
+nz_plain rules = record {
+  layout = nz_laid_plainly rules;
   announced = announced_by_default nz (Some (codes "5")) refl five;
 }

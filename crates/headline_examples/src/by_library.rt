@@ -1,6 +1,7 @@
 //! Numbers that the premises of the laws of libphonenumber's rules take.
 ghost use Rattle.std.specs.Prelude.{◌≡◌, codes, None, Some, true, false};
 ghost use Rattle.phone_values.specs.declared.country.Id.TheVariants as id;
+ghost use Rattle.phone_values.specs.declared.rules.Rules.{Rules};
 ghost use Rattle.phone_read.specs.Hints.{hinted};
 ghost use Rattle.phone_read.specs.TransformRules.{rules_have_no_plus};
 ghost use Rattle.phone_library_laws.specs.Again.{IsSettled, IsSettledIfRead, e164_reading};
@@ -48,26 +49,28 @@ pub fn home_number()
     ensures dialled { IsDialledAlike db_b (Some id.NZ) dialled_at_home }
 {}
 
-/// The texts of a number of New Zealand with an extension are read again under every hint: the
-/// international one and that of RFC 3966.
+/// The texts of a number of New Zealand with an extension, by either rules, are read again under
+/// every hint: the international one and that of RFC 3966.
 pub fn printed_with_code()
-    ensures international { IsPlainInternational db_b extended }
-    ensures laid { IsLaidInternational db_b extended }
-    ensures rfc3966 { IsPlainRfc3966 db_b extended }
-    ensures laid_rfc3966 { IsLaidRfc3966 db_b extended }
+    ensures international { (rules : Rules) → IsPlainInternational rules db_b extended }
+    ensures laid { (rules : Rules) → IsLaidInternational rules db_b extended }
+    ensures rfc3966 { (rules : Rules) → IsPlainRfc3966 rules db_b extended }
+    ensures laid_rfc3966 { (rules : Rules) → IsLaidRfc3966 rules db_b extended }
     ensures parameter { IsParameterIfAny extended.extension }
 {}
 
-/// The national text of a number of Armenia is read again under Armenia's hint.
+/// The national text of a number of Armenia, by either rules, is read again under Armenia's hint.
 pub fn printed_without_code()
-    ensures national { IsPlainNational db_e am_by_anexo (number 374 0 123456 None) }
+    ensures national { (rules : Rules) →
+        IsPlainNational rules db_e am_by_anexo (number 374 0 123456 None) }
     ensures hinted { hinted db_e (Some id.AM) ≡ Some am_by_anexo }
 {}
 
 /// The national text of a number of Andorra, which has no layout, is two digits alone, and is read
 /// again under Andorra's hint.
 pub fn two_digits_printed()
-    ensures national { IsPlainNational db_d bare_ad (number 376 0 12 None) }
+    ensures national { (rules : Rules) →
+        IsPlainNational rules db_d bare_ad (number 376 0 12 None) }
     ensures hinted { hinted db_d (Some id.AD) ≡ Some bare_ad }
 {}
 

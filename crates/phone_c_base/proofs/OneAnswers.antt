@@ -15,7 +15,7 @@ use Rattle.phone_values.specs.declared.rules.Rules.{Rules}
 use Rattle.phone_values.specs.declared.rules.Rules.TheVariants.{Library, Crate}
 use Rattle.phone_records.specs.declared.loader.Metadata.{Metadata}
 use Rattle.phone_util.specs.Possibilities.{possibility_of}
-use Rattle.phonenumber.specs.Printed.{printed}
+use Rattle.phone_library.specs.Printed.{printed_by}
 use Rattle.phone_c_base.specs.Answers.{IsKey, IsKind, IsPrinted, IsRegion, IsUnprinted, IsValidity}
 use Rattle.phone_c_base.specs.Answers.{kind_number, mode_number}
 use Rattle.phone_c_base.specs.Numbers.{HasNumbers, IsNumber, IsPart, source_number}
@@ -159,12 +159,12 @@ module _ (x : plain.Number) (bytes : List ℕ) where
   module _ (db : List Metadata) (rules : Rules) (mode : ℕ) where
     one_printed : (m n : Mode) (j k : Reading) → IsNumber x bytes j → IsNumber x bytes k →
         mode ≡ mode_number m → mode ≡ mode_number n →
-        printed db m None (printed_as rules j) ≡ printed db n None (printed_as rules k)
+        printed_by rules db m (printed_as rules j) ≡ printed_by rules db n (printed_as rules k)
     one_printed m n j k a b e f =
         let same = one_mode m n (sym e ∙ f) in
         let number = one_number j k a b in
-        ap (λ (o : Mode). printed db o None (printed_as rules j)) same
-        ∙ ap (λ r. printed db n None (printed_as rules r)) number
+        ap (λ (o : Mode). printed_by rules db o (printed_as rules j)) same
+        ∙ ap (λ r. printed_by rules db n (printed_as rules r)) number
 
     pub one_text : (a b : List ℕ) → IsPrinted rules db x bytes mode a →
         IsPrinted rules db x bytes mode b → a ≡ b

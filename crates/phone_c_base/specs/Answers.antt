@@ -19,7 +19,7 @@ use Rattle.phone_values.specs.declared.reading.Reading.{Reading}
 use Rattle.phone_engine.specs.Facts.{is_valid_by, kind_by, printed_as, region_by}
 use Rattle.phone_values.specs.declared.rules.Rules.{Rules}
 use Rattle.phone_print.specs.Texts.{e164_text}
-use Rattle.phonenumber.specs.Printed.{printed}
+use Rattle.phone_library.specs.Printed.{printed_by}
 use Rattle.phone_c_base.specs.Numbers.{HasNumbers, IsNumber}
 use Rattle.phone_c_base.specs.declared.number.Number as plain
 
@@ -73,9 +73,9 @@ mode_number Rfc3966 = 3
 abbrev pub IsPrinted : Rules → List Metadata → plain.Number → (bytes : List ℕ) → ℕ → List ℕ →
     Type 0
 IsPrinted rules db x bytes mode text = (n : Reading) × (m : Mode) × IsNumber x bytes n ×
-    (mode ≡ mode_number m) × (printed db m None (printed_as rules n) ≡ Some text)
+    (mode ≡ mode_number m) × (printed_by rules db m (printed_as rules n) ≡ Some text)
 
 -- by rules, it is a number and a mode, but no territory has its code
 abbrev pub IsUnprinted : Rules → List Metadata → plain.Number → (bytes : List ℕ) → ℕ → Type 0
 IsUnprinted rules db x bytes mode = (n : Reading) × (m : Mode) × IsNumber x bytes n ×
-    (mode ≡ mode_number m) × (printed db m None (printed_as rules n) ≡ None)
+    (mode ≡ mode_number m) × (printed_by rules db m (printed_as rules n) ≡ None)

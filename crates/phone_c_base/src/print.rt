@@ -1,7 +1,7 @@
 //! The printing of a number that is given as plain numbers.
 ghost use Rattle.std.specs.Prelude.{◌≡◌, ◌↔◌, ◌<◌, Some, None, Err, IfOk, IfSome, IfNone};
 ghost use Rattle.std.specs.Prelude.{string_bytes};
-ghost use Rattle.phonenumber.specs.Printed.{printed};
+ghost use Rattle.phone_library.specs.Printed.{printed_by};
 ghost use Rattle.phone_engine.specs.Facts.{printed_as};
 ghost use Rattle.phone_c_base.specs.Answers.{IsPrinted, IsUnprinted, mode_number};
 ghost use Rattle.phone_c_base.specs.Buffers.{IsTooLongA, IsWrittenA};
@@ -11,7 +11,7 @@ use crate::buffer::give;
 use crate::number::{Number, to_phone_number};
 use crate::status::{BAD_NUMBER, MEMORY, NO_MODE, OK, TOO_SMALL, UNKNOWN_CODE};
 use phone_engine::{Engine, Rules};
-use phone_library::without_carrier;
+use phone_library::{printed, without_carrier};
 use phone_plans::Plans;
 use phonenumber::{FormatError, Mode, PhoneNumber, format_with};
 
@@ -29,12 +29,12 @@ fn mode_of(number: u32) -> Option<Mode>
     }
 }
 
-/// The text of a number in a mode.
+/// The text of a number in a mode, as the crate prints it.
 fn text_in(database: &Plans, number: &PhoneNumber, mode: Mode) -> Result<String, FormatError>
     ensures text { IfOk result (λ t.
-        printed database.now mode None number.now ≡ Some (string_bytes t)) }
+        printed_by Rules.Crate database.now mode number.now ≡ Some (string_bytes t)) }
     ensures unknown { (result ≡ Err FormatError.UnknownCode) ↔
-        (printed database.now mode None number.now ≡ None) }
+        (printed_by Rules.Crate database.now mode number.now ≡ None) }
 {
     format_with(database, number)
         .mode(mode)
@@ -43,11 +43,11 @@ fn text_in(database: &Plans, number: &PhoneNumber, mode: Mode) -> Result<String,
 
 /// The text of a number in a mode, as an engine's rules print it.
 pub fn text_by(engine: Engine<'_>, number: &PhoneNumber, mode: Mode) -> Result<String, FormatError>
-    ensures text { IfOk result (λ t. printed engine.entry.database.now mode None
+    ensures text { IfOk result (λ t. printed_by engine.entry.rules engine.entry.database.now mode
         (printed_as engine.entry.rules number.now) ≡ Some (string_bytes t)) }
     ensures unknown { result ≡ Err FormatError.UnknownCode →
-        printed engine.entry.database.now mode None (printed_as engine.entry.rules number.now) ≡
-        None }
+        printed_by engine.entry.rules engine.entry.database.now mode
+        (printed_as engine.entry.rules number.now) ≡ None }
 {
     match engine.rules {
         Rules::Library => text_without_carrier(engine.database, number, mode),
@@ -55,19 +55,19 @@ pub fn text_by(engine: Engine<'_>, number: &PhoneNumber, mode: Mode) -> Result<S
     }
 }
 
-/// The text of a number without its carrier, in a mode.
+/// The text of a number without its carrier, in a mode, as libphonenumber prints it.
 fn text_without_carrier(
     database: &Plans,
     number: &PhoneNumber,
     mode: Mode,
 ) -> Result<String, FormatError>
-    ensures text { IfOk result (λ t. printed database.now mode None
+    ensures text { IfOk result (λ t. printed_by Rules.Library database.now mode
         (printed_as Rules.Library number.now) ≡ Some (string_bytes t)) }
     ensures unknown { result ≡ Err FormatError.UnknownCode →
-        printed database.now mode None (printed_as Rules.Library number.now) ≡ None }
+        printed_by Rules.Library database.now mode (printed_as Rules.Library number.now) ≡ None }
 {
     match without_carrier(number) {
-        Ok(number) => text_in(database, &number, mode),
+        Ok(number) => printed(database, mode, &number),
         Err(_) => Err(FormatError::Memory),
     }
 }

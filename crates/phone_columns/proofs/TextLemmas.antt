@@ -8,20 +8,20 @@ use Rattle.phone_columns.specs.declared.printed.Printed.{Printed}
 use Rattle.phone_columns.specs.declared.texts.InModes.{InModes}
 use Rattle.phone_engine.specs.Facts.{printed_as}
 use Rattle.phone_plans.specs.CodeLookUps.{first_of, territories}
-use Rattle.phone_print.specs.Texts.{text_by}
+use Rattle.phone_print.specs.Texts.{text_by_rules}
 use Rattle.phone_records.specs.declared.loader.Metadata.{Metadata}
 use Rattle.phone_values.specs.declared.mode.Mode.{Mode}
 use Rattle.phone_values.specs.declared.mode.Mode.TheVariants.{E164, International, National, Rfc3966}
 use Rattle.phone_values.specs.declared.reading.Reading.{Reading}
 use Rattle.phone_values.specs.declared.rules.Rules.{Rules}
 use Rattle.phone_values.specs.declared.rules.Rules.TheVariants.{Crate, Library}
-use Rattle.phonenumber.specs.Printed.{printed}
+use Rattle.phone_library.specs.Printed.{printed_by}
 
 -- a number whose code isn't listed has no text
 pub unprinted : (rules : Rules) (db : List Metadata) (mode : Mode) (n : Reading) → first_of (territories n.code.value db) ≡ None →
-    unwrap_or (printed db mode None (printed_as rules n)) [] ≡ []
-unprinted Library db mode n e = ap (λ o. unwrap_or (option_map (λ (m : Metadata). text_by m mode None (printed_as Library n)) o) []) e
-unprinted Crate db mode n e = ap (λ o. unwrap_or (option_map (λ (m : Metadata). text_by m mode None (printed_as Crate n)) o) []) e
+    unwrap_or (printed_by rules db mode (printed_as rules n)) [] ≡ []
+unprinted Library db mode n e = ap (λ o. unwrap_or (option_map (λ (m : Metadata). text_by_rules Library m mode None (printed_as Library n)) o) []) e
+unprinted Crate db mode n e = ap (λ o. unwrap_or (option_map (λ (m : Metadata). text_by_rules Crate m mode None (printed_as Crate n)) o) []) e
 
 buffers : (rules : Rules) (db : List Metadata) (mode : Mode) (answers : List Answer) (all printed : Printed) → printed ≡ all →
     AreTexts rules db mode answers all →

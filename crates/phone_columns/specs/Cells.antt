@@ -10,7 +10,7 @@ use Rattle.phone_values.specs.declared.reading.Reading.{Reading}
 use Rattle.phone_values.specs.declared.rules.Rules.{Rules}
 use Rattle.phone_records.specs.declared.loader.Metadata.{Metadata}
 use Rattle.phone_engine.specs.Facts.{is_valid_by, kind_by, printed_as, region_by}
-use Rattle.phonenumber.specs.Printed.{printed}
+use Rattle.phone_library.specs.Printed.{printed_by}
 use Rattle.phone_c_base.specs.Answers.{kind_number}
 use Rattle.phone_c_base.specs.Numbers.{source_number}
 use Rattle.phone_columns.specs.declared.answers.Answer.{Answer}
@@ -65,5 +65,6 @@ fact_of_row rules db f other = 0 ∷ []
 
 -- the text of its number in a mode, as these rules print it
 abbrev pub text_of_row : Rules → List Metadata → Mode → Answer → List ℕ
-text_of_row rules db mode (Number n) = unwrap_or (printed db mode None (printed_as rules n)) []
+text_of_row rules db mode (Number n) =
+    unwrap_or (printed_by rules db mode (printed_as rules n)) []
 text_of_row rules db mode other = []

@@ -1,7 +1,7 @@
 //! Columns of texts.
 ghost use Rattle.std.specs.Prelude.{◌≡◌, ◌++◌, [], IfOk, OnOk, None, unwrap_or};
 ghost use Rattle.phone_engine.specs.Facts.{printed_as};
-ghost use Rattle.phonenumber.specs.Printed.{printed};
+ghost use Rattle.phone_library.specs.Printed.{printed_by};
 ghost use Rattle.phone_columns.specs.Cells.{text_of_row};
 ghost use Rattle.phone_columns.specs.Texts.{AreTexts, IsEmpty, IsOneMore};
 
@@ -92,7 +92,7 @@ fn push_number(
     texts: &mut Vec<u8>,
 ) -> Result<(), AllocError>
     ensures { OnOk result (texts.new.items ≡ texts.old.items ++
-        unwrap_or (printed engine.entry.database.now mode None
+        unwrap_or (printed_by engine.entry.rules engine.entry.database.now mode
         (printed_as engine.entry.rules number.now)) []) }
 {
     match text_by(engine, number, mode) {

@@ -2,7 +2,7 @@
 ghost use Rattle.std.specs.Prelude.{◌≡◌, [], None, IfOk, IfSome, OnOk, unwrap_or};
 ghost use Rattle.phone_values.specs.declared.mode.Mode.TheVariants as modes;
 ghost use Rattle.phone_engine.specs.Facts.{printed_as};
-ghost use Rattle.phonenumber.specs.Printed.{printed};
+ghost use Rattle.phone_library.specs.Printed.{printed_by};
 ghost use Rattle.phone_columns.specs.Cells.{text_of_row};
 ghost use Rattle.phone_columns.specs.Texts.{AreTextsInModes, IsEmpty, IsOneMore};
 
@@ -75,18 +75,18 @@ impl InModes {
     /// Puts a number's texts behind the others; empty ones where no territory has its code, which a
     /// number that was read has. Refused only for memory.
     fn push_number(&mut self, engine: Engine<'_>, number: &PhoneNumber) -> Result<(), AllocError>
-        ensures e164 { OnOk result (IsOneMore (unwrap_or (printed engine.entry.database.now
-            modes.E164 None (printed_as engine.entry.rules number.now)) [])
+        ensures e164 { OnOk result (IsOneMore (unwrap_or (printed_by engine.entry.rules
+            engine.entry.database.now modes.E164 (printed_as engine.entry.rules number.now)) [])
             self.old.e164 self.new.e164) }
-        ensures international { OnOk result (IsOneMore (unwrap_or (printed
-            engine.entry.database.now modes.International None
+        ensures international { OnOk result (IsOneMore (unwrap_or (printed_by
+            engine.entry.rules engine.entry.database.now modes.International
             (printed_as engine.entry.rules number.now)) [])
             self.old.international self.new.international) }
-        ensures national { OnOk result (IsOneMore (unwrap_or (printed engine.entry.database.now
-            modes.National None (printed_as engine.entry.rules number.now)) [])
+        ensures national { OnOk result (IsOneMore (unwrap_or (printed_by engine.entry.rules
+            engine.entry.database.now modes.National (printed_as engine.entry.rules number.now)) [])
             self.old.national self.new.national) }
-        ensures rfc3966 { OnOk result (IsOneMore (unwrap_or (printed engine.entry.database.now
-            modes.Rfc3966 None (printed_as engine.entry.rules number.now)) [])
+        ensures rfc3966 { OnOk result (IsOneMore (unwrap_or (printed_by engine.entry.rules
+            engine.entry.database.now modes.Rfc3966 (printed_as engine.entry.rules number.now)) [])
             self.old.rfc3966 self.new.rfc3966) }
     {
         match engine.texts(number) {

@@ -4,8 +4,8 @@ use Rattle.std.proofs.Common.{option_map, append_assoc, refl, sym, ap, ◌∙◌
 use Rattle.std.proofs.lemmas.Option.{none-some, same_Some}
 use Rattle.phone_engine.specs.Facts.{printed_as}
 use Rattle.phone_values.specs.declared.rules.Rules.{Rules}
-use Rattle.phone_print.specs.Tabbed.{tabbed, texts_by}
-use Rattle.phone_print.specs.Texts.{text_by}
+use Rattle.phone_print.specs.Tabbed.{tabbed, texts_by, texts_by_rules}
+use Rattle.phone_print.specs.Texts.{text_by_rules}
 use Rattle.phone_records.specs.declared.loader.Metadata.{Metadata}
 use Rattle.phone_engine.specs.ReportLines.{known_words, number_line}
 use Rattle.phonenumber.specs.Printed.{printed_texts}
@@ -36,10 +36,11 @@ by_first n (Some m) texts before line h is = (m, refl, is ∙ sym (ap (λ t. bef
 
 -- the line of a number is its texts, and what is known of it
 pub number_line-parted : (rules : Rules) (db : List Metadata) (m : Metadata) (n : Reading) (before line : List ℕ) → before ≡ codes "ok" →
-    line ≡ (before ++ 9 ∷ texts_by m None (printed_as rules n)) ++ 9 ∷ tabbed (known_words rules db n) → line ≡ number_line rules db m n
+    line ≡ (before ++ 9 ∷ texts_by_rules rules m None (printed_as rules n)) ++ 9 ∷ tabbed (known_words rules db n) → line ≡ number_line rules db m n
 number_line-parted rules db m n before line b is =
     let p = printed_as rules n in
     is
-    ∙ ap (λ x. (x ++ 9 ∷ texts_by m None p) ++ 9 ∷ tabbed (known_words rules db n)) b
-    ∙ parted (codes "ok") (text_by m E164 None p) (text_by m International None p) (text_by m National None p) (text_by m Rfc3966 None p)
+    ∙ ap (λ x. (x ++ 9 ∷ texts_by_rules rules m None p) ++ 9 ∷ tabbed (known_words rules db n)) b
+    ∙ parted (codes "ok") (text_by_rules rules m E164 None p) (text_by_rules rules m International None p)
+    (text_by_rules rules m National None p) (text_by_rules rules m Rfc3966 None p)
     (tabbed (known_words rules db n))

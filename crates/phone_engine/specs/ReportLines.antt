@@ -6,7 +6,7 @@ use Rattle.phone_engine.specs.Readings.{ReadsBy}
 use Rattle.phone_values.specs.declared.rules.Rules.{Rules}
 use Rattle.phone_plans.specs.CodeLookUps.{first_of, territories}
 use Rattle.phone_print.specs.Tabbed.{tabbed}
-use Rattle.phone_print.specs.Texts.{text_by}
+use Rattle.phone_print.specs.Texts.{text_by_rules}
 use Rattle.phone_records.specs.declared.loader.Metadata.{Metadata}
 use Rattle.phone_values.specs.declared.country.Id.{Id}
 use Rattle.phone_values.specs.declared.error.ParseError.{ParseError}
@@ -25,9 +25,10 @@ known_words rules db n = source_word n.code.source ∷ kind_word (kind_by rules 
 -- it, then what is known of it by them
 abbrev pub number_line : Rules → List Metadata → Metadata → Reading → List ℕ
 number_line rules db m n = tabbed (codes "ok" ∷
-    text_by m E164 None (printed_as rules n) ∷ text_by m International None (printed_as rules n) ∷
-    text_by m National None (printed_as rules n) ∷ text_by m Rfc3966 None (printed_as rules n) ∷
-    known_words rules db n)
+    text_by_rules rules m E164 None (printed_as rules n) ∷
+    text_by_rules rules m International None (printed_as rules n) ∷
+    text_by_rules rules m National None (printed_as rules n) ∷
+    text_by_rules rules m Rfc3966 None (printed_as rules n) ∷ known_words rules db n)
 
 -- what the report says of one line: bytes that are no text, a refusal, or a number
 pub data IsReportLine (rules : Rules) (db : List Metadata) (hint : Option Id)

@@ -6,7 +6,7 @@ ghost use Rattle.phone_engine.specs.ReportLines.{IsReportLine};
 ghost use Rattle.phone_lines.specs.Ends.{Ends, seen};
 ghost use Rattle.phone_plans.specs.CodeLookUps.{first_of, territories};
 ghost use Rattle.phone_values.specs.declared.mode.Mode.TheVariants as mode;
-ghost use Rattle.phonenumber.specs.Printed.{printed};
+ghost use Rattle.phone_library.specs.Printed.{printed_by};
 
 use crate::facts::library_facts;
 use crate::line::line_of;
@@ -78,18 +78,22 @@ impl<'d> Engine<'d> {
     }
 
     /// A number's texts in the four modes: by the rules of libphonenumber those of the number
-    /// without its carrier, whose code stands in national text only where a caller asks for it; by
-    /// those of the crate those of the number as it is. `UnknownCode` exactly where the database
-    /// lists no territory of the code, `Memory` where memory was refused.
+    /// without its carrier, whose code stands in national text only where a caller asks for it, and
+    /// by a layout that fits the whole number; by those of the crate those of the number as it is.
+    /// `UnknownCode` exactly where the database lists no territory of the code, `Memory` where
+    /// memory was refused.
     pub fn texts(self, number: &PhoneNumber) -> Result<Texts, FormatError>
-        ensures e164 { IfOk result (λ t. printed self.entry.database.now mode.E164 None
+        ensures e164 { IfOk result (λ t.
+            printed_by self.entry.rules self.entry.database.now mode.E164
             (printed_as self.entry.rules number.now) ≡ Some (string_bytes t.e164)) }
         ensures international { IfOk result (λ t.
-            printed self.entry.database.now mode.International None
+            printed_by self.entry.rules self.entry.database.now mode.International
             (printed_as self.entry.rules number.now) ≡ Some (string_bytes t.international)) }
-        ensures national { IfOk result (λ t. printed self.entry.database.now mode.National None
+        ensures national { IfOk result (λ t.
+            printed_by self.entry.rules self.entry.database.now mode.National
             (printed_as self.entry.rules number.now) ≡ Some (string_bytes t.national)) }
-        ensures rfc3966 { IfOk result (λ t. printed self.entry.database.now mode.Rfc3966 None
+        ensures rfc3966 { IfOk result (λ t.
+            printed_by self.entry.rules self.entry.database.now mode.Rfc3966
             (printed_as self.entry.rules number.now) ≡ Some (string_bytes t.rfc3966)) }
         ensures unknown { (result ≡ Err FormatError.UnknownCode) ↔
             (first_of (territories number.now.code.value self.entry.database.now) ≡ None) }

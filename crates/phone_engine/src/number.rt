@@ -4,12 +4,12 @@ ghost use Rattle.std.specs.Prelude.{IfOk, OnOk, codes, string_bytes};
 ghost use Rattle.phone_engine.specs.Facts.{printed_as};
 ghost use Rattle.phone_engine.specs.ReportLines.{known_words, number_line};
 ghost use Rattle.phone_plans.specs.CodeLookUps.{first_of, territories};
-ghost use Rattle.phone_print.specs.Tabbed.{tabbed, texts_by};
+ghost use Rattle.phone_print.specs.Tabbed.{tabbed, texts_by_rules};
 ghost use Rattle.phone_records.specs.declared.loader.Metadata.{Metadata};
 
 use crate::engine::Engine;
 use crate::words::{kind_word, region_word, source_word, validity_word};
-use phone_library::without_carrier;
+use phone_library::{push_printed_texts, without_carrier};
 use phone_plans::Plans;
 use phone_values::Rules;
 use phonenumber::{FormatError, PhoneNumber, format_with};
@@ -54,7 +54,7 @@ fn push_number(
     ensures fields { OnOk result ((m : Metadata) ×
         (first_of (territories number.now.code.value engine.entry.database.now) ≡ Some m) ×
         (string_bytes line.new ≡ (string_bytes line.old ++
-        9 ∷ texts_by m None (printed_as engine.entry.rules number.now)) ++
+        9 ∷ texts_by_rules engine.entry.rules m None (printed_as engine.entry.rules number.now)) ++
         9 ∷ tabbed (known_words engine.entry.rules engine.entry.database.now number.now))) }
     ensures unknown { result ≡ Err FormatError.UnknownCode →
         first_of (territories number.now.code.value engine.entry.database.now) ≡ None }
@@ -76,7 +76,7 @@ fn push_printed(
     ensures texts { OnOk result ((m : Metadata) ×
         (first_of (territories number.now.code.value engine.entry.database.now) ≡ Some m) ×
         (string_bytes line.new ≡ string_bytes line.old ++
-        9 ∷ texts_by m None (printed_as engine.entry.rules number.now))) }
+        9 ∷ texts_by_rules engine.entry.rules m None (printed_as engine.entry.rules number.now))) }
     ensures unknown { result ≡ Err FormatError.UnknownCode →
         first_of (territories number.now.code.value engine.entry.database.now) ≡ None }
 {
@@ -86,8 +86,8 @@ fn push_printed(
     }
 }
 
-/// Puts the texts of a number without its carrier behind a line. A number that has none is printed
-/// as it is.
+/// Puts the texts of a number without its carrier behind a line, as libphonenumber prints it. A
+/// number that has none is printed as it is.
 fn push_without_carrier(
     line: &mut String,
     database: &Plans,
@@ -96,24 +96,25 @@ fn push_without_carrier(
     ensures texts { OnOk result ((m : Metadata) ×
         (first_of (territories number.now.code.value database.now) ≡ Some m) ×
         (string_bytes line.new ≡ string_bytes line.old ++
-        9 ∷ texts_by m None (printed_as Rules.Library number.now))) }
+        9 ∷ texts_by_rules Rules.Library m None (printed_as Rules.Library number.now))) }
     ensures unknown { result ≡ Err FormatError.UnknownCode →
         first_of (territories number.now.code.value database.now) ≡ None }
 {
     if number.carrier().is_none() {
-        return push_texts(line, database, number);
+        return push_printed_texts(line, database, number);
     }
     match without_carrier(number) {
-        Ok(bare) => push_texts(line, database, &bare),
+        Ok(bare) => push_printed_texts(line, database, &bare),
         Err(_) => Err(FormatError::Memory),
     }
 }
 
-/// Puts the texts of a number as it is behind a line.
+/// Puts the texts of a number as it is behind a line, as the crate prints it.
 fn push_texts(line: &mut String, database: &Plans, number: &PhoneNumber) -> Result<(), FormatError>
     ensures texts { OnOk result ((m : Metadata) ×
         (first_of (territories number.now.code.value database.now) ≡ Some m) ×
-        (string_bytes line.new ≡ string_bytes line.old ++ 9 ∷ texts_by m None number.now)) }
+        (string_bytes line.new ≡ string_bytes line.old ++
+        9 ∷ texts_by_rules Rules.Crate m None number.now)) }
     ensures unknown { result ≡ Err FormatError.UnknownCode →
         first_of (territories number.now.code.value database.now) ≡ None }
 {

@@ -4,6 +4,7 @@ pub mod Homes
 pub mod Kinds
 pub mod Lengths
 pub mod Lent
+pub mod Printed
 pub mod Readings
 pub mod Stripping
 pub mod Told

@@ -28,7 +28,8 @@ use Rattle.phone_library_laws.proofs.ReadAgain.{not_few}
 use Rattle.phone_library_text.specs.Written.{IsWritten, most_characters}
 use Rattle.phone_library_text.specs.declared.written.WrittenNumber.{WrittenNumber}
 use Rattle.phone_plans.specs.CodeLookUps.{first_of, shortest, territories}
-use Rattle.phone_print.specs.Texts.{extension_part, laid_out}
+use Rattle.phone_print.specs.Texts.{extension_part, laid_out_by}
+use Rattle.phone_values.specs.declared.rules.Rules.{Rules}
 use Rattle.phone_read.specs.CallingCodes.{code_by_front}
 use Rattle.phone_read.specs.Hints.{Coded, hinted}
 use Rattle.phone_records.specs.declared.loader.Metadata.{Metadata}
@@ -142,9 +143,10 @@ module _ (db : List Metadata) (n : Reading) (h : IsCoded db n) where
           subst (ReadsByLibrary db hint t) (ap (λ o. reading_under db o prefixed) there ∙ read)
           (Readings.written prefixed written)
 
-      module _ (plain : IsPlainInternational db n) (all : list_all is_digit p ≡ true) where
+      module _ (whose : Rules) (plain : IsPlainInternational whose db n)
+          (all : list_all is_digit p ≡ true) where
         abbrev laid : List ℕ
-        laid = laid_out plain.layout.territory International None n
+        laid = laid_out_by whose plain.layout.territory International None n
 
         abbrev behind : List ℕ
         behind = tail (chars (prefix_of plain.layout.territory)) n.extension
@@ -176,7 +178,7 @@ module _ (db : List Metadata) (n : Reading) (h : IsCoded db n) where
         characters : chars dialled ≡ q ++ behind
         characters =
             ap chars (in_front (laid ++ extension_part plain.layout.territory n.extension))
-            ∙ chars-laid db n plain front low
+            ∙ chars-laid whose db n plain front low
             ∙ sym (append_assoc front (chars laid) behind)
             ∙ ap (λ t. t ++ behind) (sym (in_front (chars laid)))
 

@@ -16,12 +16,13 @@ use Rattle.phone_library_laws.proofs.PlusSigns.{IsNoPlus, is_no_plus}
 use Rattle.phone_library_laws.proofs.ReadOnce.{reading_same}
 use Rattle.phone_library_text.specs.Written.{IsWritten, most_characters}
 use Rattle.phone_library_text.proofs.WrittenOnes.{written_same}
-use Rattle.phone_print.specs.Texts.{extension_part, laid_out, national_text}
+use Rattle.phone_values.specs.declared.rules.Rules.{Rules}
+use Rattle.phone_library.specs.Printed.{printed_by}
+use Rattle.phone_print.specs.Texts.{extension_part, laid_out_by, national_by}
 use Rattle.phone_read.proofs.ReadNumbers.{IfSome-stripping_territory}
 use Rattle.phone_read.specs.Hints.{Coded, hinted}
 use Rattle.phone_read.specs.TransformRules.{rules_have_no_plus}
 use Rattle.phone_records.specs.declared.loader.Metadata.{Metadata}
-use Rattle.phonenumber.specs.Printed.{printed}
 use Rattle.phone_library_back.specs.Announced.{prefix_of}
 use Rattle.phone_library_back.specs.Layouts.{is_quiet}
 use Rattle.phone_library_back.specs.Plain.{IsDialledInside, IsLaidNational}
@@ -42,14 +43,15 @@ hinted_rule db (Some id) m rules e =
     subst (λ o. IfSome o IsPlainRule) e
     (IfSome-stripping_territory IsPlainRule db (all_plain db rules) (Some id) any)
 
-module _ (db : List Metadata) (m : Metadata) (n : Reading) (p : IsLaidNational db n) where
+module _ (whose : Rules) (db : List Metadata) (m : Metadata) (n : Reading)
+    (p : IsLaidNational whose db n) where
   abbrev laid : List ℕ
-  laid = laid_out p.territory National None n
+  laid = laid_out_by whose p.territory National None n
 
   abbrev behind : List ℕ
   behind = tail (chars (prefix_of p.territory)) n.extension
 
-  characters : chars (national_text p.territory None n) ≡ chars laid ++ behind
+  characters : chars (national_by whose p.territory None n) ≡ chars laid ++ behind
   characters = chars-append laid (extension_part p.territory n.extension) p.utf8
       ∙ ap (λ t. chars laid ++ t) (chars-part p.territory n.extension p.announced)
 
@@ -64,9 +66,9 @@ module _ (db : List Metadata) (m : Metadata) (n : Reading) (p : IsLaidNational d
   again = inside_reading n (stripped (Some m) p.digits).carrier
 
   module _ (hint : Option Id) (text : List ℕ) (there : hinted db hint ≡ Some m)
-      (e : printed db National None n ≡ Some text) where
+      (e : printed_by whose db National n ≡ Some text) where
     printed_is : chars text ≡ chars laid ++ behind
-    printed_is = ap chars (sym (printed_text db National n p.territory text p.first e)) ∙ characters
+    printed_is = ap chars (sym (printed_text whose db National n p.territory text p.first e)) ∙ characters
 
     -- the text is read as its digits tell
     reads_text : ReadsByLibrary db hint (chars text)

@@ -5,9 +5,10 @@ use Rattle.std.proofs.lemmas.Str.{chars-append, chars-nil}
 use Rattle.phone_values.specs.declared.mode.Mode.{Mode}
 use Rattle.phone_values.specs.declared.reading.Reading.{Reading}
 use Rattle.phone_plans.specs.CodeLookUps.{first_of, territories}
-use Rattle.phone_print.specs.Texts.{extension_parameter, extension_part, text_by}
+use Rattle.phone_print.specs.Texts.{extension_parameter, extension_part, text_by_rules}
 use Rattle.phone_records.specs.declared.loader.Metadata.{Metadata}
-use Rattle.phonenumber.specs.Printed.{printed}
+use Rattle.phone_values.specs.declared.rules.Rules.{Rules}
+use Rattle.phone_library.specs.Printed.{printed_by}
 use Rattle.phonenumber.proofs.BackTexts.{IsUtf8-low, chars-low}
 use Rattle.phone_library_back.specs.Announced.{IsAnnouncedIfAny, IsParameterIfAny, prefix_of}
 use Rattle.phone_library_back.proofs.Tails.{tail}
@@ -19,12 +20,12 @@ chars-part m None h = chars-nil
 chars-part m (Some e) h = chars-append (prefix_of m) e h.utf8
 
 -- the text that is printed is the text of the mode by the first territory
-pub printed_text : (db : List Metadata) (mode : Mode) (n : Reading) (m : Metadata) (text : List ℕ) →
+pub printed_text : (whose : Rules) (db : List Metadata) (mode : Mode) (n : Reading) (m : Metadata) (text : List ℕ) →
     first_of (territories n.code.value db) ≡ Some m →
-    printed db mode None n ≡ Some text → text_by m mode None n ≡ text
-printed_text db mode n m text listed e =
-    let same : Some (text_by m mode None n) ≡ Some text =
-    sym (ap (option_map (λ m. text_by m mode None n)) listed) ∙ e in cc
+    printed_by whose db mode n ≡ Some text → text_by_rules whose m mode None n ≡ text
+printed_text whose db mode n m text listed e =
+    let same : Some (text_by_rules whose m mode None n) ≡ Some text =
+    sym (ap (option_map (λ m. text_by_rules whose m mode None n)) listed) ∙ e in cc
 
 -- and behind its parameter
 pub chars-parameter : (e : Option (List ℕ)) → IsParameterIfAny e →

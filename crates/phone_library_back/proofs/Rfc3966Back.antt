@@ -21,10 +21,11 @@ use Rattle.phone_values.specs.declared.mode.Mode.TheVariants.{Rfc3966}
 use Rattle.phone_values.specs.declared.reading.Reading.{Reading}
 use Rattle.phone_library.specs.Readings.{ReadsByLibrary}
 use Rattle.phone_library_text.specs.Written.{IsWritten, most_characters}
-use Rattle.phone_print.specs.Texts.{extension_parameter, hyphenated, laid_out, rfc3966_text}
+use Rattle.phone_values.specs.declared.rules.Rules.{Rules}
+use Rattle.phone_library.specs.Printed.{printed_by}
+use Rattle.phone_print.specs.Texts.{extension_parameter, hyphenated, laid_out_by, rfc3966_by}
 use Rattle.phone_read.specs.TransformRules.{rules_have_no_plus}
 use Rattle.phone_records.specs.declared.loader.Metadata.{Metadata}
-use Rattle.phonenumber.specs.Printed.{printed}
 use Rattle.phonenumber.proofs.BackNumbers.{list_all-decimal}
 use Rattle.phonenumber.proofs.BackTexts.{IsUtf8-low, all_dialled, chars-low, hyphenated-digits}
 use Rattle.phonenumber.proofs.BackTexts.{is_dialled, is_low, low_digit, low_digits}
@@ -92,13 +93,13 @@ hyphenated_laid t digits h = record {
   last = hyphenated_last t h.last;
 }
 
-module _ (db : List Metadata) (n : Reading) (h : IsCoded db n)
-    (p : IsPlainRfc3966 db (uncarried n)) where
+module _ (whose : Rules) (db : List Metadata) (n : Reading) (h : IsCoded db n)
+    (p : IsPlainRfc3966 whose db (uncarried n)) where
   abbrev cd : List ℕ
   cd = decimal n.code.value
 
   abbrev q : List ℕ
-  q = chars (laid_out p.layout.territory Rfc3966 None (uncarried n))
+  q = chars (laid_out_by whose p.layout.territory Rfc3966 None (uncarried n))
 
   abbrev number : List ℕ
   number = 43 ∷ (cd ++ 45 ∷ hyphenated q)
@@ -124,7 +125,7 @@ module _ (db : List Metadata) (n : Reading) (h : IsCoded db n)
   written_bytes = ap encode_utf8_all (sym (chars-low (hyphenated q) hyphens_low))
       ∙ encodes-chars (hyphenated q) (IsUtf8-low (hyphenated q) hyphens_low)
 
-  characters : chars (rfc3966_text p.layout.territory None (uncarried n)) ≡ codes
+  characters : chars (rfc3966_by whose p.layout.territory None (uncarried n)) ≡ codes
       "tel:" ++ (number ++ behind)
   characters =
       ap (λ w. chars (codes "tel:+" ++ (cd ++ 45 ∷ (w ++ extension_parameter n.extension))))
@@ -150,21 +151,21 @@ module _ (db : List Metadata) (n : Reading) (h : IsCoded db n)
       (subst (λ t. length t ≤ most_characters) characters p.layout.few))
 
   -- the text that is printed has these characters
-  printed_is : (text : List ℕ) → printed db Rfc3966 None (uncarried n) ≡ Some text →
+  printed_is : (text : List ℕ) → printed_by whose db Rfc3966 (uncarried n) ≡ Some text →
       chars text ≡ codes "tel:" ++ (number ++ behind)
   printed_is text e =
-      ap chars (sym (printed_text db Rfc3966 (uncarried n) p.layout.territory text
+      ap chars (sym (printed_text whose db Rfc3966 (uncarried n) p.layout.territory text
       p.layout.first e)) ∙ characters
 
   pub rfc3966_back : (hint : Option Id) (text : List ℕ) →
-      printed db Rfc3966 None (uncarried n) ≡ Some text → IsLeftAlone db n →
+      printed_by whose db Rfc3966 (uncarried n) ≡ Some text → IsLeftAlone db n →
       ReadsByLibrary db hint (chars text) (Ok (printed_reading n))
   rfc3966_back hint text e idle =
       subst (λ t. ReadsByLibrary db hint t (Ok (printed_reading n))) (sym (printed_is text e))
       (read_signed db n h idle hint (codes "tel:" ++ (number ++ behind)) written)
 
   pub rfc3966_idle : rules_have_no_plus db ≡ true → (hint : Option Id) (text : List ℕ) →
-      printed db Rfc3966 None (uncarried n) ≡ Some text →
+      printed_by whose db Rfc3966 (uncarried n) ≡ Some text →
       ReadsByLibrary db hint (chars text) (Ok (printed_reading n)) → IsLeftAlone db n
   rfc3966_idle rules hint text e read =
       idle_if_read db n h rules hint (codes "tel:" ++ (number ++ behind)) written

@@ -10,11 +10,13 @@ use Rattle.phone_values.specs.Numbers.{IsHeld, text_of}
 use Rattle.phone_values.specs.declared.mode.Mode.TheVariants.{International, Rfc3966}
 use Rattle.phone_values.specs.declared.reading.Reading.{Reading}
 use Rattle.phone_library_text.proofs.Outers.{ends_all}
-use Rattle.phone_print.specs.Layouts.{laid, layout_for}
-use Rattle.phone_print.specs.Texts.{laid_out}
+use Rattle.phone_values.specs.declared.rules.Rules.{Rules}
+use Rattle.phone_print.specs.Layouts.{laid, layout_by}
+use Rattle.phone_print.specs.Texts.{laid_out_by}
+use Rattle.phone_print.proofs.TextsLaid.{laid-rfc3966}
 use Rattle.phone_records.specs.declared.loader.Metadata.{Metadata}
 use Rattle.phonenumber.proofs.BackNumbers.{list_all-text_of}
-use Rattle.phonenumber.proofs.BackTexts.{chars-low, laid_out-rfc3966, low_digits}
+use Rattle.phonenumber.proofs.BackTexts.{chars-low, low_digits}
 use Rattle.phone_library_back.specs.Layouts.{IsLaidOut, is_quiet}
 use Rattle.phone_library_back.proofs.CodedNumbers.{all_digits}
 
@@ -28,25 +30,26 @@ digits_laid between t all some = record {
   last = ends_all is_digit t (λ e. omega (arith, some, ap length e)) all;
 }
 
-pub without_layout : (m : Metadata) (n : Reading) → IsHeld n.national →
+pub without_layout : (whose : Rules) (m : Metadata) (n : Reading) → IsHeld n.national →
     1 ≤ length (text_of n.national) →
-    layout_for m International None (text_of n.national) ≡ None →
-    IsLaidOut is_quiet (chars (laid_out m International None n)) (text_of n.national)
-without_layout m n held some none =
+    layout_by whose m International None (text_of n.national) ≡ None →
+    IsLaidOut is_quiet (chars (laid_out_by whose m International None n)) (text_of n.national)
+without_layout whose m n held some none =
     let d = text_of n.national in
     let all = list_all-text_of n.national held in
-    let as_is : chars (laid_out m International None n) ≡ d =
+    let as_is : chars (laid_out_by whose m International None n) ≡ d =
     ap (λ o. chars (laid o m International n.carrier d)) none ∙ chars-low d (low_digits d all) in
     subst (λ t. IsLaidOut is_quiet t d) (sym as_is) (digits_laid is_quiet d all some)
 
 -- the text of RFC 3966 is laid out as the international one
-pub laid_alike : (m : Metadata) (n : Reading) (d : List ℕ) →
-    IsLaidOut is_quiet (chars (laid_out m International None n)) d →
-    IsLaidOut is_separator (chars (laid_out m Rfc3966 None n)) d
-laid_alike m n d h =
-    subst (λ t. IsLaidOut is_separator (chars t) d) (sym (laid_out-rfc3966 m n)) (record {
+pub laid_alike : (whose : Rules) (m : Metadata) (n : Reading) (d : List ℕ) →
+    IsLaidOut is_quiet (chars (laid_out_by whose m International None n)) d →
+    IsLaidOut is_separator (chars (laid_out_by whose m Rfc3966 None n)) d
+laid_alike whose m n d h =
+    subst (λ t. IsLaidOut is_separator (chars t) d) (laid-rfc3966
+    (layout_by whose m International None (text_of n.national)) m n.carrier (text_of n.national)) (record {
       only = all_wider (λ c. is_digit c || is_quiet c) (λ c. is_digit c || is_separator c) wider
-          (chars (laid_out m International None n)) h.only;
+          (chars (laid_out_by whose m International None n)) h.only;
       same = h.same;
       last = h.last;
     })

@@ -7,14 +7,15 @@ ghost use Rattle.phone_library.specs.Readings.{ReadsByLibrary};
 ghost use Rattle.phone_library_laws.specs.Again.{IsSettled};
 ghost use Rattle.phone_read.specs.TransformRules.{rules_have_no_plus};
 ghost use Rattle.phone_records.specs.declared.loader.Metadata as loader;
-ghost use Rattle.phonenumber.specs.Printed.{printed};
+ghost use Rattle.phone_library.specs.Printed.{printed_by};
+ghost use Rattle.phone_values.specs.declared.rules.Rules.{Rules};
 ghost use Rattle.phone_library_back.specs.Coded.{IsCoded, IsLeftAlone};
 ghost use Rattle.phone_library_back.specs.Plain.{IsPlainInternational};
 ghost use Rattle.phone_library_back.specs.Printed.{printed_reading, uncarried};
 
-/// The international text of a number is read, under any hint, as the number without its carrier:
-/// the same calling code, told by the plus sign, the same national number with its leading zeros,
-/// and the same extension, or none.
+/// The international text of a number, by the layout that either rules choose, is read, under any
+/// hint, as the number without its carrier: the same calling code, told by the plus sign, the same
+/// national number with its leading zeros, and the same extension, or none.
 ///
 /// The number is settled, as for its E.164 text: its code is listed and has at most three digits,
 /// and no listed code begins another, so that the code is found again; the national number has 2 to
@@ -34,13 +35,13 @@ ghost use Rattle.phone_library_back.specs.Printed.{printed_reading, uncarried};
 /// something is, a plain number that is else settled is read as another, or refused, under each
 /// hint.
 pub fn international_again()
-    ensures again { (db : List loader.Metadata) (hint : Option Id) (n : Reading)
-        (text : List ℕ) → IsSettled db n → IsPlainInternational db (uncarried n) →
-        printed db mode.International None (uncarried n) ≡ Some text →
+    ensures again { (rules : Rules) (db : List loader.Metadata) (hint : Option Id) (n : Reading)
+        (text : List ℕ) → IsSettled db n → IsPlainInternational rules db (uncarried n) →
+        printed_by rules db mode.International (uncarried n) ≡ Some text →
         ReadsByLibrary db hint (chars text) (Ok (printed_reading n)) }
-    ensures exactly { (db : List loader.Metadata) (hint : Option Id) (n : Reading)
-        (text : List ℕ) → IsCoded db n → IsPlainInternational db (uncarried n) →
+    ensures exactly { (rules : Rules) (db : List loader.Metadata) (hint : Option Id) (n : Reading)
+        (text : List ℕ) → IsCoded db n → IsPlainInternational rules db (uncarried n) →
         rules_have_no_plus db ≡ true →
-        printed db mode.International None (uncarried n) ≡ Some text →
+        printed_by rules db mode.International (uncarried n) ≡ Some text →
         (ReadsByLibrary db hint (chars text) (Ok (printed_reading n)) ↔ IsLeftAlone db n) }
 {}

@@ -8,15 +8,17 @@ ghost use Rattle.phone_library.specs.Readings.{ReadsByLibrary, stripped};
 ghost use Rattle.phone_read.specs.Hints.{hinted};
 ghost use Rattle.phone_read.specs.TransformRules.{rules_have_no_plus};
 ghost use Rattle.phone_records.specs.declared.loader.Metadata as loader;
-ghost use Rattle.phonenumber.specs.Printed.{printed};
+ghost use Rattle.phone_library.specs.Printed.{printed_by};
+ghost use Rattle.phone_values.specs.declared.rules.Rules.{Rules};
 ghost use Rattle.phone_library_back.specs.Plain.{IsDialledInside, IsLaidNational};
 ghost use Rattle.phone_library_back.specs.Plain.{IsPlainNational};
 ghost use Rattle.phone_library_back.specs.Printed.{inside_reading, uncarried};
 
-/// The national text of a number is read, under a hint whose territory has the number's code, as
-/// the number: the same calling code, which is the hint's, the same national number with its
-/// leading zeros, and the same extension, or none. The carrier is what stripping finds, as the text
-/// shows none. The number's own region is such a hint, where the database has it.
+/// The national text of a number, by the layout that either rules choose, is read, under a hint
+/// whose territory has the number's code, as the number: the same calling code, which is the
+/// hint's, the same national number with its leading zeros, and the same extension, or none. The
+/// carrier is what stripping finds, as the text shows none. The number's own region is such a hint,
+/// where the database has it.
 ///
 /// The text is plain:
 ///
@@ -35,22 +37,22 @@ ghost use Rattle.phone_library_back.specs.Printed.{inside_reading, uncarried};
 /// where the digits are dialled so: the third and the fourth of these hold, and the code is the
 /// territory's.
 pub fn national_again()
-    ensures inside { (db : List loader.Metadata) (hint : Option Id) (m : loader.Metadata)
-        (n : Reading) (text : List ℕ) → hinted db hint ≡ Some m →
-        (plain : IsPlainNational db m (uncarried n)) →
-        printed db mode.National None (uncarried n) ≡ Some text →
+    ensures inside { (rules : Rules) (db : List loader.Metadata) (hint : Option Id)
+        (m : loader.Metadata) (n : Reading) (text : List ℕ) → hinted db hint ≡ Some m →
+        (plain : IsPlainNational rules db m (uncarried n)) →
+        printed_by rules db mode.National (uncarried n) ≡ Some text →
         ReadsByLibrary db hint (chars text)
         (Ok (inside_reading n (stripped (Some m) plain.layout.digits).carrier)) }
-    ensures own_region { (db : List loader.Metadata) (m : loader.Metadata) (n : Reading)
-        (text : List ℕ) → hinted db (region_of_number db n) ≡ Some m →
-        (plain : IsPlainNational db m (uncarried n)) →
-        printed db mode.National None (uncarried n) ≡ Some text →
+    ensures own_region { (rules : Rules) (db : List loader.Metadata) (m : loader.Metadata)
+        (n : Reading) (text : List ℕ) → hinted db (region_of_number db n) ≡ Some m →
+        (plain : IsPlainNational rules db m (uncarried n)) →
+        printed_by rules db mode.National (uncarried n) ≡ Some text →
         ReadsByLibrary db (region_of_number db n) (chars text)
         (Ok (inside_reading n (stripped (Some m) plain.layout.digits).carrier)) }
-    ensures exactly { (db : List loader.Metadata) (hint : Option Id) (m : loader.Metadata)
-        (n : Reading) (text : List ℕ) → hinted db hint ≡ Some m →
-        (layout : IsLaidNational db (uncarried n)) → rules_have_no_plus db ≡ true →
-        printed db mode.National None (uncarried n) ≡ Some text →
+    ensures exactly { (rules : Rules) (db : List loader.Metadata) (hint : Option Id)
+        (m : loader.Metadata) (n : Reading) (text : List ℕ) → hinted db hint ≡ Some m →
+        (layout : IsLaidNational rules db (uncarried n)) → rules_have_no_plus db ≡ true →
+        printed_by rules db mode.National (uncarried n) ≡ Some text →
         (ReadsByLibrary db hint (chars text)
         (Ok (inside_reading n (stripped (Some m) layout.digits).carrier)) ↔
         IsDialledInside m (uncarried n) layout.digits) }

@@ -8,8 +8,9 @@ ghost use Rattle.phone_values.specs.declared.country.Id.{Id};
 ghost use Rattle.phone_values.specs.declared.mode.Mode.TheVariants as mode;
 ghost use Rattle.phone_values.specs.declared.reading.Reading.{Reading};
 ghost use Rattle.phone_library.specs.Readings.{ReadsByLibrary};
-ghost use Rattle.phone_print.specs.Layouts.{layout_for};
-ghost use Rattle.phone_print.specs.Texts.{laid_out};
+ghost use Rattle.phone_print.specs.Layouts.{layout_by};
+ghost use Rattle.phone_print.specs.Texts.{laid_out_by};
+ghost use Rattle.phone_values.specs.declared.rules.Rules.{Rules};
 ghost use Rattle.phone_records.specs.declared.loader.Metadata as loader;
 ghost use Rattle.phone_library_back.specs.Announced.{IsAnnounced, IsAnnouncedIfAny, IsDigits};
 ghost use Rattle.phone_library_back.specs.Announced.{IsParameterIfAny, prefix_of};
@@ -35,14 +36,15 @@ pub fn prefixes()
         length (chars e) ≤ 9 → IsAnnounced w e }
 {}
 
-/// A number that no layout is for is laid out as its digits; and where the international text is
-/// laid out with quiet punctuation, so is that of RFC 3966 with separators.
+/// A number that no layout is for by some rules is laid out as its digits by them; and where the
+/// international text is laid out with quiet punctuation, so is that of RFC 3966 with separators.
 pub fn layouts()
-    ensures without { (m : loader.Metadata) (n : Reading) → IsHeld n.national →
+    ensures without { (rules : Rules) (m : loader.Metadata) (n : Reading) → IsHeld n.national →
         1 ≤ length (text_of n.national) →
-        layout_for m mode.International None (text_of n.national) ≡ None →
-        IsLaidOut is_quiet (chars (laid_out m mode.International None n)) (text_of n.national) }
-    ensures alike { (m : loader.Metadata) (n : Reading) (digits : List ℕ) →
-        IsLaidOut is_quiet (chars (laid_out m mode.International None n)) digits →
-        IsLaidOut is_separator (chars (laid_out m mode.Rfc3966 None n)) digits }
+        layout_by rules m mode.International None (text_of n.national) ≡ None →
+        IsLaidOut is_quiet (chars (laid_out_by rules m mode.International None n))
+        (text_of n.national) }
+    ensures alike { (rules : Rules) (m : loader.Metadata) (n : Reading) (digits : List ℕ) →
+        IsLaidOut is_quiet (chars (laid_out_by rules m mode.International None n)) digits →
+        IsLaidOut is_separator (chars (laid_out_by rules m mode.Rfc3966 None n)) digits }
 {}

@@ -7,26 +7,28 @@ ghost use Rattle.phone_library.specs.Readings.{ReadsByLibrary};
 ghost use Rattle.phone_library_laws.specs.Again.{IsSettledIfRead};
 ghost use Rattle.phone_read.specs.TransformRules.{rules_have_no_plus};
 ghost use Rattle.phone_records.specs.declared.loader.Metadata as loader;
-ghost use Rattle.phonenumber.specs.Printed.{printed};
+ghost use Rattle.phone_library.specs.Printed.{printed_by};
+ghost use Rattle.phone_values.specs.declared.rules.Rules.{Rules};
 ghost use Rattle.phone_library_back.specs.Plain.{IsLaidInternational, IsLaidRfc3966};
 ghost use Rattle.phone_library_back.specs.Printed.{printed_reading, uncarried};
 
 /// A number that was read under one hint is read again from its international text and from its
-/// text of RFC 3966 under any other, where its code has at most three digits, no listed code begins
-/// another, no transform rule has a plus sign, the code's first territory strips nothing off the
-/// national number, and the text is laid out plainly: its extension is one that is read. In an
-/// international text it must be announced by ` ext. `.
+/// text of RFC 3966, by the layouts that either rules choose, under any other, where its code has
+/// at most three digits, no listed code begins another, no transform rule has a plus sign, the
+/// code's first territory strips nothing off the national number, and the text is laid out plainly:
+/// its extension is one that is read. In an international text it must be announced by ` ext. `.
 pub fn read_twice()
-    ensures international { (db : List loader.Metadata) (hint other : Option Id)
+    ensures international { (rules : Rules) (db : List loader.Metadata) (hint other : Option Id)
         (text again : List ℕ) (n : Reading) → rules_have_no_plus db ≡ true →
         IsSettledIfRead db n → ReadsByLibrary db hint text (Ok n) →
-        (layout : IsLaidInternational db (uncarried n)) →
+        (layout : IsLaidInternational rules db (uncarried n)) →
         layout.territory.preferred_extension_prefix ≡ None →
-        printed db mode.International None (uncarried n) ≡ Some again →
+        printed_by rules db mode.International (uncarried n) ≡ Some again →
         ReadsByLibrary db other (chars again) (Ok (printed_reading n)) }
-    ensures rfc3966 { (db : List loader.Metadata) (hint other : Option Id)
+    ensures rfc3966 { (rules : Rules) (db : List loader.Metadata) (hint other : Option Id)
         (text again : List ℕ) (n : Reading) → rules_have_no_plus db ≡ true →
         IsSettledIfRead db n → ReadsByLibrary db hint text (Ok n) →
-        IsLaidRfc3966 db (uncarried n) → printed db mode.Rfc3966 None (uncarried n) ≡ Some again →
+        IsLaidRfc3966 rules db (uncarried n) →
+        printed_by rules db mode.Rfc3966 (uncarried n) ≡ Some again →
         ReadsByLibrary db other (chars again) (Ok (printed_reading n)) }
 {}

@@ -21,7 +21,8 @@ ghost use Rattle.phone_records.specs.declared.loader.Metadata as loader;
 ghost use Rattle.phone_values.specs.declared.country.Id.{Id};
 ghost use Rattle.phone_values.specs.declared.mode.Mode.TheVariants as mode;
 ghost use Rattle.phone_values.specs.declared.reading.Reading.{Reading};
-ghost use Rattle.phonenumber.specs.Printed.{printed};
+ghost use Rattle.phone_library.specs.Printed.{printed_by};
+ghost use Rattle.phone_values.specs.declared.rules.Rules.{Rules};
 
 use phone_library_back::international::international_again;
 use phone_library_back::national::national_again;
@@ -46,16 +47,17 @@ pub fn e164_is_found()
     found_between_spaces();
 }
 
-/// The international text of a valid number, between two spaces, is found under any hint, at its
-/// place, and alone: as the number without its carrier, its code told by the plus sign.
+/// The international text of a valid number, by either rules, between two spaces, is found under
+/// any hint, at its place, and alone: as the number without its carrier, its code told by the plus
+/// sign.
 ///
 /// The number is settled and its text plain, as `international_again` asks. The `x` of the text, as
 /// of ` ext. `, announce what they should. By its characters it stands whole between the spaces.
 pub fn international_is_found()
-    ensures { (db alternates : List loader.Metadata) (hint : Option Id) (tries : ℕ) (n : Reading)
-        (text : List ℕ) (all : List (Matched Reading)) → 0 < tries → IsSettled db n →
-        IsPlainInternational db (uncarried n) →
-        printed db mode.International None (uncarried n) ≡ Some text →
+    ensures { (rules : Rules) (db alternates : List loader.Metadata) (hint : Option Id) (tries : ℕ)
+        (n : Reading) (text : List ℕ) (all : List (Matched Reading)) → 0 < tries → IsSettled db n →
+        IsPlainInternational rules db (uncarried n) →
+        printed_by rules db mode.International (uncarried n) ≡ Some text →
         is_valid_number db n ≡ true → HasGoodMarks db (printed_reading n) (chars text) →
         StandsWhole (chars text) →
         AreNumbersBy db alternates hint leniency.Valid tries (spaced (chars text)) all →
@@ -65,18 +67,18 @@ pub fn international_is_found()
     international_again();
 }
 
-/// The national text of a number, between two spaces, is found under a hint whose territory has the
-/// number's code, at its place, and alone: as the number with the carrier that stripping finds, its
-/// code the hint's.
+/// The national text of a number, by either rules, between two spaces, is found under a hint whose
+/// territory has the number's code, at its place, and alone: as the number with the carrier that
+/// stripping finds, its code the hint's.
 ///
 /// The text is plain, as `national_again` asks. As it is read there, the number is valid in it: its
 /// `x` announce what they should, and it has the national prefix that it should have. By its
 /// characters it stands whole between the spaces.
 pub fn national_is_found()
-    ensures { (db alternates : List loader.Metadata) (hint : Option Id) (tries : ℕ)
+    ensures { (rules : Rules) (db alternates : List loader.Metadata) (hint : Option Id) (tries : ℕ)
         (m : loader.Metadata) (n : Reading) (text : List ℕ) (all : List (Matched Reading)) →
-        0 < tries → hinted db hint ≡ Some m → (plain : IsPlainNational db m (uncarried n)) →
-        printed db mode.National None (uncarried n) ≡ Some text →
+        0 < tries → hinted db hint ≡ Some m → (plain : IsPlainNational rules db m (uncarried n)) →
+        printed_by rules db mode.National (uncarried n) ≡ Some text →
         IsValidIn db (inside_reading n (stripped (Some m) plain.layout.digits).carrier)
         (chars text) → StandsWhole (chars text) →
         AreNumbersBy db alternates hint leniency.Valid tries (spaced (chars text)) all →
@@ -89,18 +91,18 @@ pub fn national_is_found()
     national_again();
 }
 
-/// The text of RFC 3966 of a valid number, between two spaces, has the number found in it under any
-/// hint, behind `tel:`, and alone: as the number without its carrier, its code told by the plus
-/// sign.
+/// The text of RFC 3966 of a valid number, by either rules, between two spaces, has the number
+/// found in it under any hint, behind `tel:`, and alone: as the number without its carrier, its
+/// code told by the plus sign.
 ///
 /// The number is settled and its text plain, as `rfc3966_again` asks, and it names no context. The
 /// `x` behind `tel:`, as of `;ext=`, announce what they should. By its characters that part stands
 /// whole before the space.
 pub fn rfc3966_is_found()
-    ensures { (db alternates : List loader.Metadata) (hint : Option Id) (tries : ℕ) (n : Reading)
-        (text t : List ℕ) (all : List (Matched Reading)) → 0 < tries → IsSettled db n →
-        IsPlainRfc3966 db (uncarried n) →
-        printed db mode.Rfc3966 None (uncarried n) ≡ Some text →
+    ensures { (rules : Rules) (db alternates : List loader.Metadata) (hint : Option Id) (tries : ℕ)
+        (n : Reading) (text t : List ℕ) (all : List (Matched Reading)) → 0 < tries →
+        IsSettled db n → IsPlainRfc3966 rules db (uncarried n) →
+        printed_by rules db mode.Rfc3966 (uncarried n) ≡ Some text →
         chars text ≡ codes "tel:" ++ t → parted context_name (codes "tel:" ++ t) ≡ None →
         is_valid_number db n ≡ true → HasGoodMarks db (printed_reading n) t → StandsWhole t →
         AreNumbersBy db alternates hint leniency.Valid tries (linked t) all →

@@ -5,7 +5,9 @@ use Rattle.phone_values.specs.declared.mode.Mode.TheVariants.{Rfc3966}
 use Rattle.phone_values.specs.declared.reading.Reading.{Reading}
 use Rattle.phone_records.specs.declared.loader.Format.{Format}
 use Rattle.phone_records.specs.declared.loader.Metadata.{Metadata}
-use Rattle.phone_print.specs.Texts.{extension_parameter, extension_part, hyphenated, text_by}
+use Rattle.phone_values.specs.declared.rules.Rules.{Rules}
+use Rattle.phone_values.specs.declared.rules.Rules.TheVariants.{Crate}
+use Rattle.phone_print.specs.Texts.{extension_parameter, extension_part, hyphenated, text_by_rules}
 
 -- the fields, parted by tabs
 abbrev pub tabbed : List (List ℕ) → List ℕ
@@ -13,10 +15,15 @@ tabbed [] = []
 tabbed (field ∷ []) = field
 tabbed (field ∷ next ∷ fields) = field ++ 9 ∷ tabbed (next ∷ fields)
 
--- the texts in the four modes, by a territory
+-- the texts in the four modes, by a territory and these rules
+abbrev pub texts_by_rules : Rules → Metadata → Option Format → Reading → List ℕ
+texts_by_rules rules m own n = tabbed (text_by_rules rules m E164 own n ∷
+    text_by_rules rules m International own n ∷ text_by_rules rules m National own n ∷
+    text_by_rules rules m Rfc3966 own n ∷ [])
+
+-- the same by the crate's rules
 abbrev pub texts_by : Metadata → Option Format → Reading → List ℕ
-texts_by m own n = tabbed (text_by m E164 own n ∷ text_by m International own n ∷
-    text_by m National own n ∷ text_by m Rfc3966 own n ∷ [])
+texts_by m own n = texts_by_rules Crate m own n
 
 -- the texts of a number whose code and digits are written so, laid out so abroad and at home
 abbrev pub texts_laid : Metadata → Reading → (code digits abroad at_home : List ℕ) → List ℕ

@@ -8,12 +8,12 @@ ghost use Rattle.std.specs.Option.{option_copied};
 ghost use Rattle.phone_values.specs.declared.mode.Mode.TheVariants as mode;
 ghost use Rattle.phone_territory.specs.Layouts.{suits};
 ghost use Rattle.phone_print.specs.Behind.{IsBehind};
-ghost use Rattle.phone_print.specs.Layouts.{laid, layout_for, layouts_for};
+ghost use Rattle.phone_print.specs.Layouts.{fits, is_layout_by, laid, layout_by, layouts_for};
 ghost use Rattle.phone_values.specs.Numbers.{text_of};
 ghost use Rattle.phone_records.specs.declared.loader.Format as loader;
-ghost use Rattle.phone_print.specs.Tabbed.{texts_by, texts_laid};
+ghost use Rattle.phone_print.specs.Tabbed.{texts_by_rules, texts_laid};
 ghost use Rattle.phone_print.specs.Texts.{e164_text, extension_parameter, extension_part};
-ghost use Rattle.phone_print.specs.Texts.{hyphenated, laid_out, text_by};
+ghost use Rattle.phone_print.specs.Texts.{hyphenated, laid_out_by, text_by_rules};
 
 use crate::Printable;
 use crate::appending::{
@@ -23,25 +23,27 @@ use crate::written::{ROOM, text_of_value};
 use itoa::Buffer;
 use phone_base::results::zip;
 use phone_territory::{FirstGroup, Format, Subject, Territory};
-use phone_values::Mode;
+use phone_values::{Mode, Rules};
 use std::alloc::{AllocError, Global};
 
-/// The text in a mode, by a territory.
+/// The text in a mode, by a territory: with the layout that is handed in, else with the one that
+/// these rules choose.
 pub fn text_by(
     alloc: Global,
     finder: &FirstGroup,
     m: &Territory,
     mode: Mode,
+    rules: Rules,
     own: Option<&Format>,
     number: &Printable<'_>,
 ) -> Result<String, AllocError>
     ensures { IfOk result (λ t. string_bytes t ≡
-        text_by m.now mode (option_copied own.entry) number.now) }
+        text_by_rules rules m.now mode (option_copied own.entry) number.now) }
 {
     if let Mode::E164 = mode {
         return text_of_value(alloc, format_args!("{number}"));
     }
-    let laid = laid_out(alloc, finder, m, mode, own, number)?;
+    let laid = laid_out(alloc, finder, m, mode, rules, own, number)?;
     match mode {
         Mode::National => with_extension(laid, m, number),
         Mode::Rfc3966 => rfc3966(alloc, laid.as_str(), number),
@@ -62,28 +64,29 @@ pub struct Texts {
     pub rfc3966: String,
 }
 
-/// The texts in all modes, by a territory. The digits are written once, and each layout is looked
-/// for once.
+/// The texts in all modes, by a territory, with the layout that is handed in, else with those that
+/// these rules choose. The digits are written once, and each layout is looked for once.
 pub fn texts_by(
     alloc: Global,
     finder: &FirstGroup,
     m: &Territory,
+    rules: Rules,
     own: Option<&Format>,
     number: &Printable<'_>,
 ) -> Result<Texts, AllocError>
     ensures e164 { IfOk result (λ t. string_bytes t.e164 ≡
-        text_by m.now mode.E164 (option_copied own.entry) number.now) }
+        text_by_rules rules m.now mode.E164 (option_copied own.entry) number.now) }
     ensures international { IfOk result
         (λ t. string_bytes t.international ≡
-        text_by m.now mode.International (option_copied own.entry) number.now) }
+        text_by_rules rules m.now mode.International (option_copied own.entry) number.now) }
     ensures national { IfOk result (λ t. string_bytes t.national ≡
-        text_by m.now mode.National (option_copied own.entry) number.now) }
+        text_by_rules rules m.now mode.National (option_copied own.entry) number.now) }
     ensures rfc3966 { IfOk result (λ t. string_bytes t.rfc3966 ≡
-        text_by m.now mode.Rfc3966 (option_copied own.entry) number.now) }
+        text_by_rules rules m.now mode.Rfc3966 (option_copied own.entry) number.now) }
 {
     let national = number.national();
     let digits = text_of_value(alloc, format_args!("{national}"))?;
-    texts_of(alloc, finder, m, own, number, digits.as_str())
+    texts_of(alloc, finder, m, rules, own, number, digits.as_str())
 }
 
 /// The texts in all modes of a number whose national digits are these.
@@ -91,22 +94,23 @@ fn texts_of(
     alloc: Global,
     finder: &FirstGroup,
     m: &Territory,
+    rules: Rules,
     own: Option<&Format>,
     number: &Printable<'_>,
     digits: &str,
 ) -> Result<Texts, AllocError>
     requires { digits.now ≡ text_of number.now.national }
     ensures e164 { IfOk result (λ t. string_bytes t.e164 ≡
-        text_by m.now mode.E164 (option_copied own.entry) number.now) }
+        text_by_rules rules m.now mode.E164 (option_copied own.entry) number.now) }
     ensures international { IfOk result (λ t. string_bytes t.international ≡
-        text_by m.now mode.International (option_copied own.entry) number.now) }
+        text_by_rules rules m.now mode.International (option_copied own.entry) number.now) }
     ensures national { IfOk result (λ t. string_bytes t.national ≡
-        text_by m.now mode.National (option_copied own.entry) number.now) }
+        text_by_rules rules m.now mode.National (option_copied own.entry) number.now) }
     ensures rfc3966 { IfOk result (λ t. string_bytes t.rfc3966 ≡
-        text_by m.now mode.Rfc3966 (option_copied own.entry) number.now) }
+        text_by_rules rules m.now mode.Rfc3966 (option_copied own.entry) number.now) }
 {
     let digits = Subject::of(digits);
-    let layouts = layouts_of(m, own, &digits)?;
+    let layouts = layouts_of(m, rules, own, &digits)?;
     let (abroad, at_home) = zip(
         laid_by(
             alloc,
@@ -167,22 +171,24 @@ fn texts_laid(
     })
 }
 
-/// Puts the texts in all modes behind a line, by a territory, each after one tab. Refused only for
-/// memory; then the line is as it was. The digits of a number without leading zeros take no memory.
+/// Puts the texts in all modes behind a line, by a territory, each after one tab, with the layout
+/// that is handed in, else with those that these rules choose. Refused only for memory; then the
+/// line is as it was. The digits of a number without leading zeros take no memory.
 pub fn push_texts(
     line: &mut String,
     alloc: Global,
     finder: &FirstGroup,
     m: &Territory,
+    rules: Rules,
     own: Option<&Format>,
     number: &Printable<'_>,
 ) -> Result<(), AllocError>
     ensures texts { OnOk result (string_bytes line.new ≡ string_bytes line.old ++
-        9 ∷ texts_by m.now (option_copied own.entry) number.now) }
+        9 ∷ texts_by_rules rules m.now (option_copied own.entry) number.now) }
     ensures kept { OnErr result (string_bytes line.new ≡ string_bytes line.old) }
 {
     let len = line.len();
-    match push_some(line, alloc, finder, m, own, number) {
+    match push_some(line, alloc, finder, m, rules, own, number) {
         Ok(()) => Ok(()),
         Err(error) => {
             line.truncate(len);
@@ -197,21 +203,22 @@ fn push_some(
     alloc: Global,
     finder: &FirstGroup,
     m: &Territory,
+    rules: Rules,
     own: Option<&Format>,
     number: &Printable<'_>,
 ) -> Result<(), AllocError>
     ensures texts { OnOk result (string_bytes line.new ≡ string_bytes line.old ++
-        9 ∷ texts_by m.now (option_copied own.entry) number.now) }
+        9 ∷ texts_by_rules rules m.now (option_copied own.entry) number.now) }
     ensures behind { OnErr result (IsBehind (string_bytes line.old) (string_bytes line.new)) }
 {
     let national = number.national();
     if national.zeros() == 0 {
         let mut buffer = Buffer::new();
         let digits = buffer.format(national.value());
-        return push_texts_of(line, alloc, finder, m, own, number, digits);
+        return push_texts_of(line, alloc, finder, m, rules, own, number, digits);
     }
     let digits = text_of_value(alloc, format_args!("{national}"))?;
-    push_texts_of(line, alloc, finder, m, own, number, digits.as_str())
+    push_texts_of(line, alloc, finder, m, rules, own, number, digits.as_str())
 }
 
 /// The same of a number whose national digits are these. It is laid out once where national text
@@ -221,17 +228,18 @@ fn push_texts_of(
     alloc: Global,
     finder: &FirstGroup,
     m: &Territory,
+    rules: Rules,
     own: Option<&Format>,
     number: &Printable<'_>,
     digits: &str,
 ) -> Result<(), AllocError>
     requires { digits.now ≡ text_of number.now.national }
     ensures texts { OnOk result (string_bytes line.new ≡ string_bytes line.old ++
-        9 ∷ texts_by m.now (option_copied own.entry) number.now) }
+        9 ∷ texts_by_rules rules m.now (option_copied own.entry) number.now) }
     ensures behind { OnErr result (IsBehind (string_bytes line.old) (string_bytes line.new)) }
 {
     let subject = Subject::of(digits);
-    let layouts = layouts_of(m, own, &subject)?;
+    let layouts = layouts_of(m, rules, own, &subject)?;
     let mode = Mode::International;
     let abroad = laid_by(alloc, finder, m, mode, layouts.abroad, number, &subject)?;
     let laid = abroad.as_str();
@@ -255,10 +263,11 @@ fn has_one_list(m: &Territory) -> bool
 /// Whether it is certain that a number is laid out at home as it is abroad, by this layout: the
 /// territory has the same layouts for both, no carrier was dialled, and the layout has no rule.
 fn is_laid_alike(m: &Territory, abroad: Option<&Format>, number: &Printable<'_>) -> bool
-    ensures { IsTrue result → (own : Option loader.Format) → option_copied abroad.entry ≡
-        layout_for m.now mode.International own (text_of number.now.national) →
-        laid_out m.now mode.National own number.now ≡
-        laid_out m.now mode.International own number.now }
+    ensures { IsTrue result → (rules : Rules) (own : Option loader.Format) →
+        option_copied abroad.entry ≡
+        layout_by rules m.now mode.International own (text_of number.now.national) →
+        laid_out_by rules m.now mode.National own number.now ≡
+        laid_out_by rules m.now mode.International own number.now }
 {
     if !has_one_list(m) {
         return false;
@@ -363,15 +372,16 @@ fn laid_out(
     finder: &FirstGroup,
     m: &Territory,
     mode: Mode,
+    rules: Rules,
     own: Option<&Format>,
     number: &Printable<'_>,
 ) -> Result<String, AllocError>
     ensures { IfOk result (λ t. string_bytes t ≡
-        laid_out m.now mode (option_copied own.entry) number.now) }
+        laid_out_by rules m.now mode (option_copied own.entry) number.now) }
 {
     let national = number.national();
     let digits = text_of_value(alloc, format_args!("{national}"))?;
-    laid_in_mode(alloc, finder, m, mode, own, number, digits.as_str())
+    laid_in_mode(alloc, finder, m, mode, rules, own, number, digits.as_str())
 }
 
 /// Digits of a number, laid out by the layout that counts; the digits where there is none.
@@ -380,16 +390,17 @@ fn laid_in_mode(
     finder: &FirstGroup,
     m: &Territory,
     mode: Mode,
+    rules: Rules,
     own: Option<&Format>,
     number: &Printable<'_>,
     digits: &str,
 ) -> Result<String, AllocError>
     ensures { IfOk result (λ t. string_bytes t ≡
-        laid (layout_for m.now mode (option_copied own.entry) digits.now)
+        laid (layout_by rules m.now mode (option_copied own.entry) digits.now)
         m.now mode number.now.carrier digits.now) }
 {
     let digits = Subject::of(digits);
-    let chosen = layout_for(m, mode, own, &digits)?;
+    let chosen = layout_for(m, mode, rules, own, &digits)?;
     laid_by(alloc, finder, m, mode, chosen, number, &digits)
 }
 
@@ -449,20 +460,21 @@ struct Layouts<'a> {
 /// have the same ones.
 fn layouts_of<'a>(
     m: &'a Territory,
+    rules: Rules,
     own: Option<&'a Format>,
     digits: &Subject<'_>,
 ) -> Result<Layouts<'a>, AllocError>
     ensures abroad { IfOk result (λ l. option_copied l.abroad.layout ≡
-        layout_for m.entry.now mode.International (option_copied own.entry) digits.now) }
+        layout_by rules m.entry.now mode.International (option_copied own.entry) digits.now) }
     ensures at_home { IfOk result (λ l. option_copied l.at_home.layout ≡
-        layout_for m.entry.now mode.National (option_copied own.entry) digits.now) }
+        layout_by rules m.entry.now mode.National (option_copied own.entry) digits.now) }
     ensures abroad_suits { IfOk result (λ l. IsTrue l.abroad.is_suited →
         IfSome l.abroad.layout (λ f. suits digits.now f.now ≡ true)) }
     ensures home_suits { IfOk result (λ l. IsTrue l.at_home.is_suited →
         IfSome l.at_home.layout (λ f. suits digits.now f.now ≡ true)) }
 {
-    let abroad = layout_for(m, Mode::International, own, digits)?;
-    let at_home = at_home(m, own, digits, abroad)?;
+    let abroad = layout_for(m, Mode::International, rules, own, digits)?;
+    let at_home = at_home(m, rules, own, digits, abroad)?;
     Ok(Layouts { abroad, at_home })
 }
 
@@ -470,34 +482,37 @@ fn layouts_of<'a>(
 /// same layouts for both.
 fn at_home<'a>(
     m: &'a Territory,
+    rules: Rules,
     own: Option<&'a Format>,
     digits: &Subject<'_>,
     abroad: Chosen<'a>,
 ) -> Result<Chosen<'a>, AllocError>
     requires layout { option_copied abroad.layout ≡
-        layout_for m.now mode.International (option_copied own) digits.now }
+        layout_by rules m.now mode.International (option_copied own) digits.now }
     requires suits { IsTrue abroad.is_suited →
         IfSome abroad.layout (λ f. suits digits.now f.now ≡ true) }
     ensures layout { IfOk result (λ f. option_copied f.layout ≡
-        layout_for m.entry.now mode.National (option_copied own.entry) digits.now) }
+        layout_by rules m.entry.now mode.National (option_copied own.entry) digits.now) }
     ensures suits { IfOk result (λ f. IsTrue f.is_suited →
         IfSome f.layout (λ f. suits digits.now f.now ≡ true)) }
 {
     if has_one_list(m) {
         return Ok(abroad);
     }
-    layout_for(m, Mode::National, own, digits)
+    layout_for(m, Mode::National, rules, own, digits)
 }
 
-/// The layout that was handed in, else the first of the territory's that suits the digits.
+/// The layout that was handed in, else the first of the territory's that these rules choose for the
+/// digits.
 fn layout_for<'a>(
     m: &'a Territory,
     mode: Mode,
+    rules: Rules,
     own: Option<&'a Format>,
     digits: &Subject<'_>,
 ) -> Result<Chosen<'a>, AllocError>
     ensures layout { IfOk result (λ f. option_copied f.layout ≡
-        layout_for m.entry.now mode (option_copied own.entry) digits.now) }
+        layout_by rules m.entry.now mode (option_copied own.entry) digits.now) }
     ensures suits { IfOk result (λ f. IsTrue f.is_suited →
         IfSome f.layout (λ f. suits digits.now f.now ≡ true)) }
 {
@@ -507,7 +522,7 @@ fn layout_for<'a>(
             is_suited: false,
         }),
         None => Ok(Chosen {
-            layout: first_suiting(layouts_for(m, mode), digits)?,
+            layout: first_layout(rules, layouts_for(m, mode), digits)?,
             is_suited: true,
         }),
     }
@@ -526,19 +541,46 @@ pub fn layouts_for(m: &Territory, mode: Mode) -> &[Format]
     }
 }
 
-/// The first of these layouts that suits the digits.
-fn first_suiting<'a>(
+/// The first of these layouts that is one for the digits by these rules. Refused only for memory.
+pub fn first_layout<'a>(
+    rules: Rules,
     layouts: &'a [Format],
     digits: &Subject<'_>,
 ) -> Result<Option<&'a Format>, AllocError>
     ensures first { IfOk result (λ f.
-        option_copied f ≡ find (suits digits.now) layouts.entry.now) }
+        option_copied f ≡ find (is_layout_by rules digits.now) layouts.entry.now) }
     ensures suits { IfOk result (λ f. IfSome f (λ f. suits digits.now f.now ≡ true)) }
 {
     for layout in layouts {
-        if layout.suits_in(digits)? {
+        if is_layout(rules, layout, digits)? {
             return Ok(Some(layout));
         }
     }
     Ok(None)
+}
+
+/// Whether a layout is one for the digits by these rules. It suits them then.
+fn is_layout(rules: Rules, layout: &Format, digits: &Subject<'_>) -> Result<bool, AllocError>
+    ensures asked { IfOk result (λ b. b ≡ is_layout_by rules digits.now layout.now) }
+    ensures suits { IfOk result (λ b. IsTrue b → suits digits.now layout.now ≡ true) }
+{
+    match rules {
+        Rules::Library => fits(layout, digits),
+        Rules::Crate => layout.suits_in(digits),
+    }
+}
+
+/// Whether a layout fits the digits. One that suits them does where it names leading digits; else
+/// its pattern is asked. It suits them then.
+fn fits(layout: &Format, digits: &Subject<'_>) -> Result<bool, AllocError>
+    ensures asked { IfOk result (λ b. b ≡ fits digits.now layout.now) }
+    ensures suits { IfOk result (λ b. IsTrue b → suits digits.now layout.now ≡ true) }
+{
+    if !layout.suits_in(digits)? {
+        return Ok(false);
+    }
+    match layout.leading_at(0) {
+        Some(_) => Ok(true),
+        None => layout.whole_pattern().is_whole_match_in(digits),
+    }
 }

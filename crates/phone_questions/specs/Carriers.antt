@@ -4,8 +4,9 @@ use Rattle.std.specs.Prelude.{ℕ, List, [], ◌∷◌, Option, None, Some, unwr
 use Rattle.phone_values.specs.Numbers.{text_of}
 use Rattle.phone_values.specs.declared.mode.Mode.TheVariants.{National}
 use Rattle.phone_values.specs.declared.reading.Reading.{Reading}
+use Rattle.phone_values.specs.declared.rules.Rules.TheVariants.{Library}
+use Rattle.phone_library.specs.Printed.{printed_by}
 use Rattle.phone_records.specs.declared.loader.Metadata.{Metadata}
-use Rattle.phonenumber.specs.Printed.{printed}
 use Rattle.phone_questions.specs.Matches.{extension_told}
 
 -- a carrier counts where it isn't empty
@@ -23,7 +24,7 @@ dialled_with carrier n = record n {
 -- the national text of a number with a carrier, its digits alone where its code isn't listed
 abbrev pub national_with : List Metadata → List ℕ → Reading → List ℕ
 national_with db carrier n =
-    unwrap_or (printed db National None (dialled_with carrier n)) (text_of n.national)
+    unwrap_or (printed_by Library db National (dialled_with carrier n)) (text_of n.national)
 
 -- the carrier that was dialled with a number, where it isn't empty; else another
 abbrev pub preferred_carrier : List ℕ → Option (List ℕ) → List ℕ

@@ -10,16 +10,18 @@ use Rattle.phone_values.specs.declared.kind.«Type».{«Type»}
 use Rattle.phone_values.specs.declared.kind.«Type».TheVariants.{Mobile}
 use Rattle.phone_values.specs.declared.mode.Mode.TheVariants.{International}
 use Rattle.phone_values.specs.declared.reading.Reading.{Reading}
+use Rattle.phone_values.specs.declared.rules.Rules.TheVariants.{Library}
 use Rattle.phone_library.specs.Facts.{kind_of_number}
 use Rattle.phone_plans.specs.CodeLookUps.{first_of, territories}
-use Rattle.phone_print.specs.Layouts.{laid, layout_for}
+use Rattle.phone_print.specs.Layouts.{laid, layout_by}
 use Rattle.phone_records.specs.declared.loader.Metadata.{Metadata}
 use Rattle.phone_questions.specs.Belonging.{own_territory}
 use Rattle.phone_questions.specs.Kinds.{is_geographical_kind, mobile_token}
 
 -- digits laid out for calls from abroad
 abbrev pub laid_abroad : Metadata → List ℕ → List ℕ
-laid_abroad m digits = laid (layout_for m International None digits) m International None digits
+laid_abroad m digits =
+    laid (layout_by Library m International None digits) m International None digits
 
 -- a character that is no digit
 abbrev pub is_between : ℕ → Bool

@@ -2,16 +2,17 @@
 ghost use Rattle.std.specs.Prelude.{◌≡◌, ◌↔◌, Err, IfOk, None, Some, string_bytes, unwrap_or};
 ghost use Rattle.phone_values.specs.Numbers.{text_of};
 ghost use Rattle.phone_values.specs.declared.mode.Mode.TheVariants as mode;
-ghost use Rattle.phonenumber.specs.Printed.{printed};
+ghost use Rattle.phone_library.specs.Printed.{printed_by};
 ghost use Rattle.std.specs.Option.{option_copied};
 ghost use Rattle.phone_questions.specs.Carriers.{carrier_told, dialled_with, national_with};
 ghost use Rattle.phone_questions.specs.Carriers.{preferred_carrier};
 ghost use Rattle.phone_questions.specs.Matches.{extension_told};
 
 use phone_base::results::zip;
+use phone_library::printed;
 use phone_plans::Plans;
-use phone_values::{Carrier, Extension, Mode};
-use phonenumber::{FormatError, PhoneNumber, format_with};
+use phone_values::{Carrier, Extension, Mode, Rules};
+use phonenumber::{FormatError, PhoneNumber};
 use std::alloc::{AllocError, Global};
 
 /// The national text of a number as it is dialled with the selection code of a carrier, by the
@@ -64,10 +65,10 @@ fn or_else<'a>(text: &'a str, other: &'a str) -> &'a str
 /// memory.
 fn national_text(database: &Plans, number: &PhoneNumber) -> Result<String, AllocError>
     ensures { IfOk result (λ t. string_bytes t ≡ unwrap_or
-        (printed database.now mode.National None number.now) (text_of number.now.national)) }
+        (printed_by Rules.Library database.now mode.National number.now)
+        (text_of number.now.national)) }
 {
-    let printer = format_with(database, number).mode(Mode::National);
-    match printer.to_text(database.allocator()) {
+    match printed(database, Mode::National, number) {
         Ok(text) => Ok(text),
         Err(FormatError::UnknownCode) => number.national().to_string(database.allocator()),
         Err(FormatError::Memory) => Err(AllocError),

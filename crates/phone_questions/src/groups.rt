@@ -1,9 +1,5 @@
 //! How many digits of a number are its area code, and its destination code.
-ghost use Rattle.std.specs.Prelude.{◌≡◌, ◌+◌, IfOk, IfSome, IsTrue, None, Some, chars, length};
-ghost use Rattle.std.specs.Prelude.{string_bytes, true};
-ghost use Rattle.std.specs.List.{find};
-ghost use Rattle.std.specs.Option.{option_copied};
-ghost use Rattle.phone_territory.specs.Layouts.{suits};
+ghost use Rattle.std.specs.Prelude.{◌≡◌, ◌+◌, IfOk, chars, length, string_bytes};
 ghost use Rattle.phone_questions.specs.Groups.{after_group, area_length, destination_length};
 ghost use Rattle.phone_questions.specs.Groups.{first_group, has_area, has_token, is_mobile};
 ghost use Rattle.phone_questions.specs.Groups.{is_without_area, laid_abroad, length_in_groups};
@@ -14,9 +10,9 @@ use crate::kinds::{is_geographical_kind, mobile_token};
 use phone_chars::cuts::{CharSet, after_run, split_run};
 use phone_library::number_type;
 use phone_plans::{Plans, Territory};
-use phone_print::printing::layouts_for;
-use phone_territory::{Format, Subject};
-use phone_values::{Mode, Type};
+use phone_print::printing::{first_layout, layouts_for};
+use phone_territory::Subject;
+use phone_values::{Mode, Rules, Type};
 use phonenumber::PhoneNumber;
 use std::alloc::AllocError;
 
@@ -104,27 +100,14 @@ fn laid_abroad(m: &Territory, digits: &str) -> Result<String, AllocError>
     ensures { IfOk result (λ t. string_bytes t ≡ laid_abroad m.now digits.now) }
 {
     let subject = Subject::of(digits);
-    match first_suiting(layouts_for(m, Mode::International), &subject)? {
+    match first_layout(
+        Rules::Library,
+        layouts_for(m, Mode::International),
+        &subject,
+    )? {
         Some(layout) => layout.lay_out_in(&subject, true),
         None => String::from_str(m.allocator(), digits),
     }
-}
-
-/// The first of these layouts that suits the digits. Refused only for memory.
-fn first_suiting<'a>(
-    layouts: &'a [Format],
-    digits: &Subject<'_>,
-) -> Result<Option<&'a Format>, AllocError>
-    ensures first { IfOk result (λ f.
-        option_copied f ≡ find (suits digits.now) layouts.entry.now) }
-    ensures suits { IfOk result (λ f. IfSome f (λ f. suits digits.now f.now ≡ true)) }
-{
-    for layout in layouts {
-        if layout.suits_in(digits)? {
-            return Ok(Some(layout));
-        }
-    }
-    Ok(None)
 }
 
 /// The digits from `0` to `9`.

@@ -11,6 +11,7 @@ use Rattle.phone_values.specs.declared.country.Source.TheVariants.{Idd, Plus}
 use Rattle.phone_values.specs.declared.mode.Mode.{Mode}
 use Rattle.phone_values.specs.declared.mode.Mode.TheVariants.{International, National}
 use Rattle.phone_values.specs.declared.reading.Reading.{Reading}
+use Rattle.phone_values.specs.declared.rules.Rules.TheVariants.{Crate}
 use Rattle.phone_library.specs.Readings.{ReadsByLibrary, stripped}
 use Rattle.phone_library_text.specs.Written.{most_characters}
 use Rattle.phone_library_back.specs.Coded.{IsCoded}
@@ -81,7 +82,7 @@ module _ (db : List Metadata) (region : Id) (n : Reading) (h : IsSettledDialled 
       ReadsByLibrary db (Some region) (chars text) (Ok (dialled_reading Plus n))
   plus_again text none e =
       let same : international_text m None n ≡ text = behind_dialled None none text e in
-      international_back db n coded h.plain (Some region) text
+      international_back Crate db n coded h.plain (Some region) text
       (printed_is db region n h.from m h.hinted h.plain.layout.first International text same)
       h.settled.idle
 
@@ -93,12 +94,12 @@ module _ (db : List Metadata) (region : Id) (n : Reading) (h : IsSettledDialled 
       sym (append_assoc pre.prefix (32 ∷ []) coded_text)
       ∙ behind_dialled (Some pre.prefix) pre.dialled text e in
       subst (λ t. ReadsByLibrary db (Some region) (chars t) (Ok (dialled_reading Idd n))) same
-      (prefixed.prefix_back db n coded h.from pre.prefix pre.found h.settled.idle h.plain pre.digits
+      (prefixed.prefix_back db n coded h.from pre.prefix pre.found h.settled.idle Crate h.plain pre.digits
       (Some region) h.hinted (subst (λ t. length (chars t) ≤ most_characters) (sym same) few))
 
 -- of the region's own code
 pub inside_again : (db : List Metadata) (region : Id) (from : Metadata) (n : Reading)
-    (text : List ℕ) → last_with (name region) db ≡ Some from → (plain : IsPlainNational db from n) →
+    (text : List ℕ) → last_with (name region) db ≡ Some from → (plain : IsPlainNational Crate db from n) →
     dialled_text db region n ≡ Ok text → ReadsByLibrary db (Some region) (chars text)
     (Ok (inside_reading n (stripped (Some from) plain.layout.digits).carrier))
 inside_again db region from n text hinted plain e =
@@ -107,5 +108,5 @@ inside_again db region from n text hinted plain e =
     eq-eqb (code_of from) n.code.value plain.dialled.code in
     let same : national_text m None n ≡ text =
     sym (cond-true _ _ _ own) ∙ dialled_is db region n from m hinted plain.layout.first text e in
-    national_back db from n plain.layout (Some region) text hinted
+    national_back Crate db from n plain.layout (Some region) text hinted
     (printed_is db region n from m hinted plain.layout.first National text same) plain.dialled

@@ -5,6 +5,7 @@ use Rattle.phone_values.specs.Ids.{name}
 use Rattle.phone_values.specs.declared.country.Id.{Id}
 use Rattle.phone_values.specs.declared.country.Source.{Source}
 use Rattle.phone_values.specs.declared.reading.Reading.{Reading}
+use Rattle.phone_values.specs.declared.rules.Rules.TheVariants.{Crate}
 use Rattle.phone_library_back.specs.Plain.{IsPlainInternational}
 use Rattle.phone_library_laws.specs.Again.{IsSettled}
 use Rattle.phone_plans.specs.Records.{last_with}
@@ -18,7 +19,7 @@ pub record IsSettledDialled (db : List Metadata) (region : Id) (n : Reading) : T
   pub hinted : last_with (name region) db ≡ Some from
   pub other_code : (code_of from == n.code.value) ≡ false
   pub settled : IsSettled db n
-  pub plain : IsPlainInternational db n
+  pub plain : IsPlainInternational Crate db n
 
 -- the number, with its extension and without a carrier, whose code was found so
 abbrev pub dialled_reading : Source → Reading → Reading

@@ -12,7 +12,7 @@ ghost use Rattle.phonenumber.specs.Sinks.{IsWrittenWhole, puts};
 use crate::{PhoneNumber, TextSink};
 use phone_plans::{Format, Plans};
 use phone_print::{Texts, printing};
-use phone_values::Mode;
+use phone_values::{Mode, Rules};
 use std::alloc::Global;
 use std::fmt;
 use thiserror::Error;
@@ -137,6 +137,7 @@ impl<'n, 'd, 'f> Formatter<'n, 'd, 'f> {
             finder,
             territory,
             self.mode,
+            Rules::Crate,
             self.format,
             &self.number.printable(),
         ) {
@@ -170,7 +171,8 @@ impl Formatter<'_, '_, '_> {
             return Err(FormatError::UnknownCode);
         };
         let finder = self.database.first_group_finder();
-        match printing::texts_by(alloc, finder, m, self.format, &self.number.printable()) {
+        let number = self.number.printable();
+        match printing::texts_by(alloc, finder, m, Rules::Crate, self.format, &number) {
             Ok(texts) => Ok(texts),
             Err(_) => Err(FormatError::Memory),
         }
@@ -202,6 +204,7 @@ impl Formatter<'_, '_, '_> {
             alloc,
             finder,
             m,
+            Rules::Crate,
             self.format,
             &self.number.printable(),
         ) {

@@ -98,7 +98,7 @@ impl PhoneNumber {
     }
 
     /// The number, lent to be printed by a territory.
-    pub(crate) fn printable(&self) -> Printable<'_>
+    pub fn printable(&self) -> Printable<'_>
         ensures { result ≡ self.now }
     {
         Printable::new(&self.code, &self.national, self.extension(), self.carrier())

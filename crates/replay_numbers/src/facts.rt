@@ -34,14 +34,24 @@ pub fn push_parts(out: &mut String, number: &PhoneNumber) -> Result<(), AllocErr
     push_part(out, carrier(number))
 }
 
-/// Writes the text in each mode behind this sign, or `UnknownCode` for each, parted by tabs.
+/// Writes the text that a printer makes in each mode behind this sign, or `UnknownCode` for each,
+/// parted by tabs.
 pub fn push_texts(
     alloc: Global,
     out: &mut String,
     printer: Formatter<'_, '_, '_>,
     sign: &str,
 ) -> Result<()> {
-    match around(alloc, begin(alloc), printer.to_texts(alloc)) {
+    push_printed(
+        out,
+        around(alloc, begin(alloc), printer.to_texts(alloc)),
+        sign,
+    )
+}
+
+/// Writes the texts that were printed behind this sign, or `UnknownCode` for each, parted by tabs.
+pub fn push_printed(out: &mut String, texts: Result<Texts, FormatError>, sign: &str) -> Result<()> {
+    match texts {
         Ok(texts) => Ok(push_each(out, &texts, sign)?),
         Err(FormatError::UnknownCode) => {
             Ok(out.push_str("UnknownCode\tUnknownCode\tUnknownCode\tUnknownCode")?)

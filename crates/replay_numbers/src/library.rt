@@ -2,9 +2,9 @@
 //! of one that is read as the original reads.
 use crate::reading::push_report;
 use anyhow::Result;
-use phone_library::{NumberFacts, facts, parse, without_carrier};
+use phone_library::{NumberFacts, facts, parse, printed_texts, without_carrier};
 use phone_meta::Database;
-use phonenumber::{Facts, ParseError, PhoneNumber, format_with};
+use phonenumber::{Facts, ParseError, PhoneNumber};
 use replay_base::marks::{around, begin};
 use replay_base::table::Row;
 use replay_base::words::{hint, push_refusal};
@@ -48,7 +48,8 @@ fn push_read(
 fn push_number(alloc: Global, out: &mut String, db: &Database, number: &PhoneNumber) -> Result<()> {
     let told = of_library(facts(db, number)?);
     let printed = without_carrier(number)?;
-    push_report(alloc, out, format_with(db, &printed), number, told)
+    let texts = around(alloc, begin(alloc), printed_texts(db, &printed));
+    push_report(out, texts, number, told)
 }
 
 /// What these rules tell, as what the crate's tell.

@@ -1,11 +1,11 @@
 //! Texts that are read: `parse` tells the number, `report` all that the database tells of it
 //! besides, `parse-made` the number of a text that the line makes, and `fronts` how many fronts of
 //! a text are answered.
-use crate::facts::{carrier, extension, push_facts, push_parts, push_texts};
+use crate::facts::{carrier, extension, push_facts, push_parts, push_printed};
 use crate::fronts::fronts;
 use anyhow::Result;
 use phone_meta::Database;
-use phonenumber::{Facts, Formatter, ParseError, PhoneNumber, format_with, parse_with};
+use phonenumber::{Facts, FormatError, ParseError, PhoneNumber, Texts, format_with, parse_with};
 use replay_base::marks::{around, begin};
 use replay_base::readers::text_of_row;
 use replay_base::table::Row;
@@ -81,20 +81,20 @@ fn push_report_or_refusal(
 /// Writes the report on a number.
 fn push_number(alloc: Global, out: &mut String, db: &Database, number: &PhoneNumber) -> Result<()> {
     let facts = number.facts(db)?;
-    push_report(alloc, out, format_with(db, number), number, facts)
+    let texts = around(alloc, begin(alloc), format_with(db, number).to_texts(alloc));
+    push_report(out, texts, number, facts)
 }
 
-/// Writes `ok` and what this prints in the four modes, the number's source, what is told of its
+/// Writes `ok` and what is printed in the four modes, the number's source, what is told of its
 /// kind, region and validity, and its extension, carrier and national text, parted by tabs.
 pub fn push_report(
-    alloc: Global,
     out: &mut String,
-    printer: Formatter<'_, '_, '_>,
+    texts: Result<Texts, FormatError>,
     number: &PhoneNumber,
     facts: Facts,
 ) -> Result<()> {
     out.push_str("ok\t")?;
-    push_texts(alloc, out, printer, "")?;
+    push_printed(out, texts, "")?;
     Ok(push_told(out, number, facts)?)
 }
 

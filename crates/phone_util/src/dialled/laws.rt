@@ -10,6 +10,7 @@ ghost use Rattle.phone_library_back.specs.Printed.{inside_reading};
 ghost use Rattle.phone_plans.specs.Records.{last_with};
 ghost use Rattle.phone_records.specs.declared.loader.Metadata as loader;
 ghost use Rattle.phone_values.specs.declared.reading.Reading.{Reading};
+ghost use Rattle.phone_values.specs.declared.rules.Rules.TheVariants as rules;
 ghost use Rattle.phonenumber.specs.Bounds.{IsBounded};
 ghost use Rattle.phone_util.specs.Back.{IsAfterPlus, IsAfterPrefix, IsPlainDialled, IsReadUnder};
 ghost use Rattle.phone_util.specs.Dialled.{dialled_prefix, dialled_text};
@@ -60,7 +61,7 @@ pub fn dialled_again()
         ReadsByLibrary db (Some region) (chars text) (Ok (dialled_reading source.Plus n)) }
     ensures inside { (db : List loader.Metadata) (region : Id) (from : loader.Metadata)
         (n : Reading) (text : List ℕ) → last_with (name region) db ≡ Some from →
-        (plain : IsPlainNational db from n) → dialled_text db region n ≡ Ok text →
+        (plain : IsPlainNational rules.Crate db from n) → dialled_text db region n ≡ Ok text →
         ReadsByLibrary db (Some region) (chars text)
         (Ok (inside_reading n (stripped (Some from) plain.layout.digits).carrier)) }
 {}

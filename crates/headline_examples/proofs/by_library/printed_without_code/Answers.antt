@@ -5,19 +5,20 @@ use Rattle.std.specs.Str.{chars}
 use Rattle.phone_values.specs.Ids.{name}
 use Rattle.phone_values.specs.declared.mode.Mode.TheVariants.{National}
 use Rattle.phone_library_text.specs.Written.{most_characters}
-use Rattle.phone_print.specs.Texts.{laid_out}
+use Rattle.phone_print.specs.Texts.{laid_out_by}
+use Rattle.phone_values.specs.declared.rules.Rules.{Rules}
 use Rattle.phone_rules.specs.Strips.{Stripped}
 use Rattle.phonenumber.proofs.BackTexts.{IsUtf8-low}
 use Rattle.phone_library_back.specs.Layouts.{IsLaidOut, is_quiet}
 use Rattle.phone_library_back.specs.Plain.{IsDialledInside}
 use Rattle.headline_examples.proofs.Kept.{stripped_kept}
-use Rattle.headline_examples.proofs.Laid.{spaced_laid}
+use Rattle.headline_examples.proofs.Laid.{spaced_laid_by}
 use Rattle.headline_examples.specs.Samples.{am_by_anexo, number}
 use Rattle.headline_examples.proofs.by_library.printed_without_code.Goals as goal
 
 -- the national layout is the international one
-laid_is : codes "123 456" ≡ laid_out am_by_anexo National None (number 374 0 123456 None)
-laid_is = sym (spaced_laid (codes "AM") 374 (codes " anexo ") None)
+laid_is : (rules : Rules) → codes "123 456" ≡ laid_out_by rules am_by_anexo National None (number 374 0 123456 None)
+laid_is rules = sym (spaced_laid_by rules (codes "AM") 374 (codes " anexo ") None)
 
 quietly : IsLaidOut is_quiet (chars (codes "123 456")) (codes "123456")
 unfolding chars
@@ -42,16 +43,16 @@ inside = record {
 pub returns : goal.returns
 unfolding digits name
 returns c = record {
-  national = record {
+  national = λ rules. record {
     layout = record {
       territory = am_by_anexo;
       first = refl;
-      utf8 = subst IsUtf8 laid_is (IsUtf8-low (codes "123 456") refl);
+      utf8 = subst IsUtf8 (laid_is rules) (IsUtf8-low (codes "123 456") refl);
       digits = codes "123456";
-      laid = subst (λ t. IsLaidOut is_quiet (chars t) (codes "123456")) laid_is quietly;
+      laid = subst (λ t. IsLaidOut is_quiet (chars t) (codes "123456")) (laid_is rules) quietly;
       enough = inl (leb-true 3 _ refl);
       announced = tt;
-      few = subst (λ (t : List ℕ). length (chars (t ++ [])) ≤ most_characters) laid_is few;
+      few = subst (λ (t : List ℕ). length (chars (t ++ [])) ≤ most_characters) (laid_is rules) few;
     };
     dialled = inside;
   };

@@ -39,7 +39,7 @@ inside = record {
 pub returns : goal.returns
 unfolding digits name
 returns c = record {
-  national = record {
+  national = λ rules. record {
     layout = record {
       territory = bare_ad;
       first = refl;

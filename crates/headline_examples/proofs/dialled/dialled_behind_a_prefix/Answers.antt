@@ -7,6 +7,7 @@ use Rattle.headline_examples.proofs.ByText.{international, is_plain}
 use Rattle.headline_examples.proofs.Laid.{nz_laid}
 use Rattle.headline_examples.proofs.Prefixed.{us_prefix}
 use Rattle.headline_examples.proofs.NewZealand.{nz_plain, nz_settled}
+use Rattle.phone_values.specs.declared.rules.Rules.TheVariants.{Crate}
 use Rattle.headline_examples.specs.Samples.{nz, us}
 use Rattle.headline_examples.proofs.dialled.dialled_behind_a_prefix.Goals as goal
 
@@ -33,7 +34,7 @@ returns c = record {
       hinted = refl;
       other_code = refl;
       settled = nz_settled (Some (codes "5"));
-      plain = nz_plain;
+      plain = nz_plain Crate;
     },
     record { prefix = codes "011"; dialled = refl; digits = refl; found = us_prefix },
   );

@@ -4,16 +4,16 @@ use Rattle.phone_library_back.proofs.NationalBack.{national_back, national_insid
 use Rattle.phone_library_back.proofs.national.national_again.Goals as goal
 
 pub returns-clause-inside : goal.returns-clause-inside
-returns-clause-inside c db hint m n text there plain e =
-    national_back db m (uncarried n) plain.layout hint text there e plain.dialled
+returns-clause-inside c whose db hint m n text there plain e =
+    national_back whose db m (uncarried n) plain.layout hint text there e plain.dialled
 
 pub returns-clause-own_region : goal.returns-clause-own_region
-returns-clause-own_region c db m n text there plain e =
-    national_back db m (uncarried n) plain.layout (region_of_number db n) text there e
+returns-clause-own_region c whose db m n text there plain e =
+    national_back whose db m (uncarried n) plain.layout (region_of_number db n) text there e
     plain.dialled
 
 pub returns-clause-exactly : goal.returns-clause-exactly
-returns-clause-exactly c db hint m n text there layout rules e = (
-  national_inside db m (uncarried n) layout hint text there e rules,
-  national_back db m (uncarried n) layout hint text there e,
+returns-clause-exactly c whose db hint m n text there layout rules e = (
+  national_inside whose db m (uncarried n) layout hint text there e rules,
+  national_back whose db m (uncarried n) layout hint text there e,
 )

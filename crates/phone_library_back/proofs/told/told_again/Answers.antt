@@ -18,20 +18,20 @@ returns-clause-e164 c db hint n r settled read =
     (read_again db n settled international_written hint) (e164_alike db n)
 
 pub returns-clause-international : goal.returns-clause-international
-returns-clause-international c db hint n r text settled plain e read =
+returns-clause-international c whose db hint n r text settled plain e read =
     told_alike db hint (chars text) n r (printed_reading n) read
-    (international_back db (uncarried n) (uncarried_coded db n (coded_of db n settled)) plain hint
+    (international_back whose db (uncarried n) (uncarried_coded db n (coded_of db n settled)) plain hint
     text e settled.idle)
     (printed_alike db n)
 
 pub returns-clause-rfc3966 : goal.returns-clause-rfc3966
-returns-clause-rfc3966 c db hint n r text settled plain e read =
+returns-clause-rfc3966 c whose db hint n r text settled plain e read =
     told_alike db hint (chars text) n r (printed_reading n) read
-    (rfc3966_back db n (coded_of db n settled) plain hint text e settled.idle) (printed_alike db n)
+    (rfc3966_back whose db n (coded_of db n settled) plain hint text e settled.idle) (printed_alike db n)
 
 pub returns-clause-national : goal.returns-clause-national
-returns-clause-national c db hint m n r text there plain e read =
+returns-clause-national c whose db hint m n r text there plain e read =
     let carrier = (stripped (Some m) plain.layout.digits).carrier in
     told_alike db hint (chars text) n r (inside_reading n carrier) read
-    (national_back db m (uncarried n) plain.layout hint text there e plain.dialled)
+    (national_back whose db m (uncarried n) plain.layout hint text there e plain.dialled)
     (inside_alike db n carrier)

@@ -6,7 +6,7 @@ use Rattle.phone_matches.specs.declared.leniency.Leniency.TheVariants.{Valid}
 use Rattle.phone_matches_back.proofs.printed.national_is_found.Goals as goal
 
 pub returns : goal.returns
-returns c db alternates hint tries m n text all some there plain e valid whole found =
+returns c rules db alternates hint tries m n text all some there plain e valid whole found =
     c.found_between_spaces.ensures db alternates hint Valid tries (chars text)
     (inside_reading n (stripped (Some m) plain.layout.digits).carrier) all some whole
-    (record { read = c.national_again.ensures.inside db hint m n text there plain e; enough = Leniencies.valid valid }) found
+    (record { read = c.national_again.ensures.inside rules db hint m n text there plain e; enough = Leniencies.valid valid }) found
