@@ -9,7 +9,8 @@ use Rattle.phone_values.specs.declared.reading.Reading.{Reading}
 use Rattle.phone_library.specs.Facts.{is_valid_number, kind_of_number}
 use Rattle.phone_plans.specs.CodeLookUps.{first_of, territories}
 use Rattle.phone_values.specs.declared.mode.Mode.TheVariants.{E164}
-use Rattle.phone_print.specs.Texts.{e164_text, text_by}
+use Rattle.phone_print.specs.Texts.{e164_text, text_by_rules}
+use Rattle.phone_values.specs.declared.rules.Rules.TheVariants.{Library}
 use Rattle.phone_records.specs.declared.loader.Metadata.{Metadata}
 use Rattle.phone_territory.specs.Records.{id_of}
 use Rattle.phone_questions.specs.Belonging.{is_dialled_from_abroad}
@@ -39,7 +40,7 @@ way_abroad db m id n other valid far =
 e164_plain : (db : List Metadata) (m : Metadata) (n : Reading) → first_of (territories n.code.value db) ≡ Some m →
     text_by_way db false None n Abroad ≡ e164_text n
 e164_plain db m n first =
-    ap (λ (o : Option Metadata). unwrap_or (option_map (λ k. text_by k E164 None (plain (dialled_part n))) o) (e164_text n)) first
+    ap (λ (o : Option Metadata). unwrap_or (option_map (λ k. text_by_rules Library k E164 None (plain (dialled_part n))) o) (e164_text n)) first
 
 pub mobile_abroad : (db : List Metadata) (m : Metadata) (id : List ℕ) (n : Reading) → first_of (territories n.code.value db) ≡ Some m →
     bytes_eq (id_of m) id ≡ false → is_valid_number db n ≡ true → is_dialled_from_abroad db n ≡ true →

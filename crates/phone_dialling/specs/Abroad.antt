@@ -11,7 +11,8 @@ use Rattle.phone_values.specs.declared.country.Id.{Id}
 use Rattle.phone_values.specs.declared.mode.Mode.TheVariants.{International, National}
 use Rattle.phone_values.specs.declared.reading.Reading.{Reading}
 use Rattle.phone_plans.specs.CodeLookUps.{first_of, territories}
-use Rattle.phone_print.specs.Texts.{international_text}
+use Rattle.phone_values.specs.declared.rules.Rules.TheVariants.{Library}
+use Rattle.phone_print.specs.Texts.{international_by}
 use Rattle.phone_records.specs.declared.loader.Metadata.{Metadata}
 use Rattle.phone_territory.specs.Records.{code_of}
 use Rattle.phone_questions.specs.Regions.{territory_of}
@@ -65,7 +66,7 @@ behind_prefix (Some prefix) rest = prefix ++ 32 ∷ rest
 -- international text with a prefix in the place of the plus sign
 abbrev pub abroad_text : (from m : Metadata) → Reading → List ℕ
 abroad_text from m n = behind_prefix (prefix_of from)
-    (signless (international_text m None (plain n)))
+    (signless (international_by Library m None (plain n)))
 
 -- national text, between regions of the code 1 behind the digit 1 and a space
 abbrev pub home_text : List Metadata → Option (List ℕ) → Reading → List ℕ

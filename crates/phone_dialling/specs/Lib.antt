@@ -2,5 +2,4 @@ pub mod Abroad
 pub mod Mobile
 pub mod Original
 pub mod OwnLayouts
-pub mod ShortNumbers
 pub mod Texts

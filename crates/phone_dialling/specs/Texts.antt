@@ -12,9 +12,10 @@ use Rattle.phone_values.specs.declared.mode.Mode.{Mode}
 use Rattle.phone_values.specs.declared.mode.Mode.TheVariants.{E164, International, National}
 use Rattle.phone_values.specs.declared.mode.Mode.TheVariants.{Rfc3966}
 use Rattle.phone_values.specs.declared.reading.Reading.{Reading}
+use Rattle.phone_values.specs.declared.rules.Rules.TheVariants.{Library}
+use Rattle.phone_library.specs.Printed.{printed_by}
 use Rattle.phone_print.specs.Texts.{e164_text}
 use Rattle.phone_records.specs.declared.loader.Metadata.{Metadata}
-use Rattle.phonenumber.specs.Printed.{printed}
 use Rattle.phone_questions.specs.Matches.{extension_told}
 
 -- a number that is printed without a carrier; an empty extension is none
@@ -30,7 +31,7 @@ unlisted_text Rfc3966 n = text_of n.national
 
 -- the text of a number of which no more is known
 abbrev pub plain_text : List Metadata → Mode → Reading → List ℕ
-plain_text db mode n = unwrap_or (printed db mode None n) (unlisted_text mode n)
+plain_text db mode n = unwrap_or (printed_by Library db mode n) (unlisted_text mode n)
 
 -- a text that a number was read from is printed in its place where its value is 0 and the text
 -- isn't empty

@@ -9,7 +9,7 @@ ghost use Rattle.phone_dialling.specs.Abroad.{prefix_of, single_prefix};
 ghost use Rattle.phone_dialling.specs.Texts.{plain};
 ghost use Rattle.phone_chars.specs.Characters.{is_digit};
 ghost use Rattle.phone_parts.specs.Texts.{begins};
-ghost use Rattle.phone_print.specs.Texts.{international_text};
+ghost use Rattle.phone_print.specs.Texts.{international_by};
 ghost use Rattle.phone_plans.specs.CodeLookUps.{first_of, territories};
 ghost use Rattle.phone_questions.specs.Regions.{territory_of};
 ghost use Rattle.std.specs.List.{list_all};
@@ -18,8 +18,8 @@ use crate::texts::{plain, plain_text, signless, text_in};
 use phone_chars::chars::is_digit;
 use phone_chars::cuts::{CharSet, after_run, split_first};
 use phone_plans::{Plans, Territory};
-use phone_values::Mode;
 use phone_values::country::Id;
+use phone_values::{Mode, Rules};
 use phonenumber::PhoneNumber;
 use std::alloc::{AllocError, Global};
 
@@ -145,7 +145,7 @@ fn international(
 ) -> Result<String, AllocError>
     requires { first_of (territories number.now.code.value database.now) ≡ Some m.now }
     ensures { IfOk result (λ t. string_bytes t ≡
-        international_text m.now None (plain number.now)) }
+        international_by Rules.Library m.now None (plain number.now)) }
 {
     let number = plain(number)?;
     plain_text(database, Mode::International, &number)

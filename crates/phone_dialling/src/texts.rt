@@ -6,11 +6,11 @@ ghost use Rattle.phone_dialling.specs.Texts.{coded, kept, kept_text, plain, plai
 ghost use Rattle.phone_dialling.specs.Texts.{text_in, unlisted_text};
 ghost use Rattle.phone_questions.specs.Matches.{extension_told};
 
-use phone_library::without_carrier;
+use phone_library::{printed, without_carrier};
 use phone_plans::Plans;
 use phone_values::Mode;
 use phone_values::country::Source;
-use phonenumber::{FormatError, PhoneNumber, format_with};
+use phonenumber::{FormatError, PhoneNumber};
 use std::alloc::{AllocError, Global};
 
 /// The text of a number in a mode, as libphonenumber prints a number of which it keeps the text
@@ -122,8 +122,7 @@ pub(crate) fn plain_text(
 ) -> Result<String, AllocError>
     ensures { IfOk result (λ t. string_bytes t ≡ plain_text database.now mode number.now) }
 {
-    let printer = format_with(database, number).mode(mode);
-    match printer.to_text(database.allocator()) {
+    match printed(database, mode, number) {
         Ok(text) => Ok(text),
         Err(FormatError::UnknownCode) => unlisted_text(database.allocator(), mode, number),
         Err(FormatError::Memory) => Err(AllocError),

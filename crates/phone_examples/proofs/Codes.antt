@@ -1,5 +1,5 @@
--- What the lowest calling code has that has something.
-use Rattle.std.proofs.Common.{◌≡◌, ◌⊎◌, inl, inr, ℕ, zero, suc, ◌+◌, ◌<◌, true, false, List, Option, None, Some, option_map, is_some, Result, Err, refl, ap, sym, subst, ◌∙◌, arith, true≢false}
+-- The answer for a kind, by what the lowest calling code has that has something.
+use Rattle.std.proofs.Common.{◌≡◌, ◌⊎◌, inl, inr, ℕ, List, Option, None, Some, Result, Err, subst}
 use Rattle.phone_values.specs.declared.country.Id.{Id}
 use Rattle.phone_values.specs.declared.error.ParseError.{ParseError}
 use Rattle.phone_values.specs.declared.error.ParseError.TheVariants.{Memory}
@@ -10,36 +10,6 @@ use Rattle.phone_examples.specs.Examples
 use Rattle.phone_examples.specs.Examples.{AnswersExample, IsExample}
 use Rattle.phone_examples.specs.Lowest
 use Rattle.phone_examples.specs.Lowest.{AnswersAny, IsLowest, example_of_code, example_of_regions}
-
--- below the next number is the last one, or what is below that
-below_next : (n code : ℕ) → code < n + 1 → (code < n) ⊎ (code ≡ n)
-below_next zero zero h = inr refl
-below_next zero (suc code) h = absurd (omega (arith, h))
-below_next (suc n) zero h = inl (omega arith)
-below_next (suc n) (suc code) h = more (below_next n code (omega (arith, h))) where
-  more : (code < n) ⊎ (code ≡ n) → (suc code < suc n) ⊎ (suc code ≡ suc n)
-  more (inl k) = inl (omega (arith, k))
-  more (inr e) = inr (ap suc e)
-
-module _ {A X : Type 0} (view : A → X) (of : ℕ → Option X) where
-  none_map : (found : Option A) → is_some found ≡ false → option_map view found ≡ None
-  none_map None e = refl
-  none_map (Some a) e = absurd (true≢false e)
-
-  below_by : (n code : ℕ) → of n ≡ None → ((c : ℕ) → c < n → of c ≡ None) → (code < n) ⊎ (code ≡ n) → of code ≡ None
-  below_by n code here below (inl h) = below code h
-  below_by n code here below (inr e) = ap of e ∙ here
-
-  -- one code more that has nothing
-  pub below_more : (n : ℕ) (found : Option A) → ((code : ℕ) → code < n → of code ≡ None) → is_some found ≡ false →
-      option_map view found ≡ of n → (code : ℕ) → code < n + 1 → of code ≡ None
-  below_more n found below none is code h = below_by n code (sym is ∙ none_map found none) below (below_next n code h)
-
-  -- the first that has something
-  pub lowest_so : (n : ℕ) (found : Option A) → n < 65536 → ((code : ℕ) → code < n → of code ≡ None) → is_some found ≡ true →
-      option_map view found ≡ of n → IsLowest of (option_map view found)
-  lowest_so n None h below some is = absurd (true≢false (sym some))
-  lowest_so n (Some a) h below some is = Lowest.found n (view a) h below (sym is)
 
 module _ (db : List Metadata) (k : «Type») (r : Result (Option Reading) ParseError) where
   region_by : (region : Id) (text : List ℕ) → IsLowest (example_of_regions db k) (Some (region, text)) →

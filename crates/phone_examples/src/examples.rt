@@ -91,7 +91,7 @@ fn worldwide_of(database: &Plans, code: u16) -> Option<&Territory>
 }
 
 /// A territory, where it is no region's.
-fn if_worldwide(m: &Territory) -> Option<&Territory>
+pub(crate) fn if_worldwide(m: &Territory) -> Option<&Territory>
     ensures { option_copied result ≡ if_worldwide m.entry.now }
 {
     if m.id() == WORLDWIDE { Some(m) } else { None }

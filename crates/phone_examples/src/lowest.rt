@@ -1,22 +1,20 @@
 //! An example of a kind, of whatever region or calling code.
 ghost use Rattle.std.specs.Prelude.{◌≡◌, ◌⊎◌, ℕ, Err, IfOk, List, None, Option, map, option_map};
-ghost use Rattle.std.specs.Prelude.{string_bytes};
+ghost use Rattle.std.specs.Prelude.{Some, string_bytes};
 ghost use Rattle.phone_examples.specs.Examples.{IsExample};
 ghost use Rattle.std.specs.Borrow.{Bor};
-ghost use Rattle.phone_examples.specs.Lowest.{AnswersAny, IsLowest, example_of_code};
-ghost use Rattle.phone_examples.specs.Lowest.{example_of_regions, region_example, seen};
+ghost use Rattle.phone_examples.specs.Lowest.{AnswersAny, IsLeast, IsLowest, example_of_code};
+ghost use Rattle.phone_examples.specs.Lowest.{example_of_regions, gives, is_lower, is_served};
+ghost use Rattle.phone_examples.specs.Lowest.{region_example, seen, serves};
 ghost use Rattle.phone_records.specs.Missing.{first_given};
 ghost use Rattle.phone_records.specs.declared.loader.Metadata as loader;
 
-use crate::examples::{code_example, example_in, read_example};
+use crate::examples::{code_example, example_in, if_worldwide, read_example};
 use phone_plans::{Plans, Territory};
 use phone_values::country::Id;
 use phone_values::{ParseError, Type};
 use phonenumber::PhoneNumber;
 use std::alloc::AllocError;
-
-/// How many numbers may be calling codes.
-const ALL_CODES: u32 = 65536;
 
 /// An example of a number of a kind, of whatever region: that of the lowest calling code with a
 /// region whose territory gives one, of these the first, read under the region; else that of the
@@ -50,13 +48,49 @@ fn lowest_of_regions(database: &Plans, kind: Type) -> Result<Option<(Id, &str)>,
     ensures { IfOk result (λ found. IsLowest (example_of_regions database.entry.now kind)
         (option_map seen found)) }
 {
-    for n in 0..ALL_CODES {
-        let found = of_regions(database, kind, n as u16)?;
-        if found.is_some() {
-            return Ok(found);
+    match lowest_giving(kind, database.territories()) {
+        Some(code) => of_lowest(database, kind, code),
+        None => Ok(None),
+    }
+}
+
+/// The same of the lowest code itself. Refused only for memory.
+fn of_lowest(database: &Plans, kind: Type, code: u16) -> Result<Option<(Id, &str)>, AllocError>
+    requires { IsLeast (gives kind) database.now (Some code) }
+    ensures { IfOk result (λ found. IsLowest (example_of_regions database.entry.now kind)
+        (option_map seen found)) }
+{
+    of_regions(database, kind, code)
+}
+
+/// The lowest code of those of these territories that give an example of a kind and are a region's.
+fn lowest_giving(kind: Type, territories: &[Territory]) -> Option<u16>
+    ensures { IsLeast (gives kind) territories.now result }
+{
+    let mut low = None;
+    for m in territories {
+        if is_lower(m.country_code(), low) && gives(kind, m) {
+            low = Some(m.country_code());
         }
     }
-    Ok(None)
+    low
+}
+
+/// Whether a code is lower than what was found before.
+fn is_lower(code: u16, low: Option<u16>) -> bool
+    ensures { result ≡ is_lower code low }
+{
+    match low {
+        Some(low) => code < low,
+        None => true,
+    }
+}
+
+/// Whether a territory gives an example of a kind and is a region's.
+fn gives(kind: Type, m: &Territory) -> bool
+    ensures { result ≡ gives kind m.now }
+{
+    region_example(kind, m).is_some()
 }
 
 /// The first example that a code's territories give. Refused only for memory.
@@ -97,11 +131,54 @@ fn lowest_of_codes(database: &Plans, kind: Type) -> Result<Option<String>, Alloc
     ensures { IfOk result (λ found. IsLowest (example_of_code database.now kind)
         (option_map string_bytes found)) }
 {
-    for n in 0..ALL_CODES {
-        let found = code_example(database, &[kind], n as u16)?;
-        if found.is_some() {
-            return Ok(found);
+    let low = lowest_serving(database, kind, database.territories())?;
+    match low {
+        Some(code) => of_lowest_code(database, kind, code),
+        None => Ok(None),
+    }
+}
+
+/// The same of the lowest code itself. Refused only for memory.
+fn of_lowest_code(database: &Plans, kind: Type, code: u16) -> Result<Option<String>, AllocError>
+    requires { IsLeast (serves database.now kind) database.now (Some code) }
+    ensures { IfOk result (λ found. IsLowest (example_of_code database.now kind)
+        (option_map string_bytes found)) }
+{
+    code_example(database, &[kind], code)
+}
+
+/// The lowest code of those of these territories that serves no region and has an example. Refused
+/// only for memory.
+fn lowest_serving(
+    database: &Plans,
+    kind: Type,
+    territories: &[Territory],
+) -> Result<Option<u16>, AllocError>
+    ensures { IfOk result (IsLeast (serves database.now kind) territories.now) }
+{
+    let mut low = None;
+    for m in territories {
+        if is_lower(m.country_code(), low) && serves(database, kind, m)? {
+            low = Some(m.country_code());
         }
     }
-    Ok(None)
+    Ok(low)
+}
+
+/// Whether a territory is no region's, gives an example of a kind, and its code has one. Refused
+/// only for memory.
+fn serves(database: &Plans, kind: Type, m: &Territory) -> Result<bool, AllocError>
+    ensures { IfOk result (λ b. b ≡ serves database.now kind m.now) }
+{
+    if !is_served(kind, m) {
+        return Ok(false);
+    }
+    Ok(code_example(database, &[kind], m.country_code())?.is_some())
+}
+
+/// Whether a territory is no region's and gives an example of a kind.
+fn is_served(kind: Type, m: &Territory) -> bool
+    ensures { result ≡ is_served kind m.now }
+{
+    example_in(m, kind).is_some() && if_worldwide(m).is_some()
 }

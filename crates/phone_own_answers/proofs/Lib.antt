@@ -1,4 +1,5 @@
 pub mod Beginnings
+pub mod KnownCosts
 pub mod NumberSwaps
 pub mod TextReads
 pub mod TextSwaps

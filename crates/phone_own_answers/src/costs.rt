@@ -1,74 +1,86 @@
 //! What a short number of a calling code costs, of which no region is told: our own answer.
 ghost use Rattle.std.specs.Prelude.{◌≡◌, IfOk, filter, map, not};
-ghost use Rattle.std.specs.Borrow.{Bor};
-ghost use Rattle.phone_dialling.specs.ShortNumbers.{cost_in, dearest, is_one_cost};
-ghost use Rattle.phone_own_answers.specs.Costs.{is_valid_in, known_cost, knows};
-ghost use Rattle.phone_records.specs.declared.loader.Metadata as loader;
+ghost use Rattle.std.specs.Option.{option_copied};
+ghost use Rattle.phone_short_questions.specs.ShortNumbers.{dearest_of, is_one_cost};
+ghost use Rattle.phone_short_questions.specs.ShortRecords.{cost_by};
+ghost use Rattle.phone_own_answers.specs.Costs.{is_valid_by, known_by, known_cost};
 
-use phone_dialling::{cost_in, dearest_of};
+use phone_pattern::Subject;
 use phone_plans::{Plans, Territory};
-use phone_short::{Cost, is_valid_short};
+use phone_short::Cost;
+use phone_short_questions::{cost_by, dearest_of, is_number_by, is_possible_by, short_records};
 use phonenumber::PhoneNumber;
-use std::alloc::AllocError;
+use std::alloc::{AllocError, Global};
 
-/// What a short number costs, where its region isn't told: as `cost_anywhere` of `phone_dialling`,
-/// but in the regions of its calling code whose table knows it, so that `911` costs nothing under
-/// the code 1 though two of its regions have another number. Unknown where no region knows it, and
-/// where the code isn't listed. Refused only for memory.
+/// What a short number costs, where its region isn't told: as `cost_anywhere` of
+/// `phone_short_questions`, but in the regions of its calling code whose table knows it, so that
+/// `911` costs nothing under the code 1 though two of its regions have another number. Unknown
+/// where no region knows it, and where the code isn't listed. Refused only for memory.
 pub fn known_cost(database: &Plans, short: &Plans, number: &PhoneNumber) -> Result<Cost, AllocError>
     ensures { IfOk result (λ c. c ≡ known_cost database.now short.now number.now) }
 {
     let digits = number.national().to_string(database.allocator())?;
-    match database.by_code(&number.code().value())? {
-        Some(found) => cost_among(short, digits.as_str(), found.as_slice()),
-        None => Ok(Cost::Unknown),
-    }
+    let records = short_records(database, short, number)?;
+    dearest_known(
+        short.allocator(),
+        records.as_slice(),
+        &Subject::of(digits.as_str()),
+    )
 }
 
-/// The same in the regions of these territories. Refused only for memory.
-fn cost_among(short: &Plans, digits: &str, found: &[&Territory]) -> Result<Cost, AllocError>
-    ensures { IfOk result (λ c. c ≡ dearest short.now digits.now
-        (filter (knows short.now digits.now)
-        (map (λ (m : Bor loader.Metadata). m.now) found.now))) }
+/// The first that digits cost by those of these records that know them of premium rate, an unknown
+/// cost, standard rate and nothing; unknown without one. Refused only for memory.
+fn dearest_known(
+    alloc: Global,
+    records: &[Option<&Territory>],
+    digits: &Subject<'_>,
+) -> Result<Cost, AllocError>
+    ensures { IfOk result (λ c. c ≡ dearest_of (map (cost_by digits.now)
+        (filter (known_by digits.now) (map option_copied records.now)))) }
 {
-    let costs = known_costs(short, digits, found)?;
+    let costs = known_costs(alloc, records, digits)?;
     Ok(dearest_of(costs.as_slice()))
 }
 
-/// What digits cost in those of these territories whose region's table knows them. Refused only for
-/// memory.
-fn known_costs(short: &Plans, digits: &str, found: &[&Territory]) -> Result<Vec<Cost>, AllocError>
-    ensures { IfOk result (λ v. v.items ≡ map (cost_in short.now digits.now)
-        (filter (knows short.now digits.now)
-        (map (λ (m : Bor loader.Metadata). m.now) found.now))) }
+/// What digits cost by those of these records that know them. Refused only for memory.
+fn known_costs(
+    alloc: Global,
+    records: &[Option<&Territory>],
+    digits: &Subject<'_>,
+) -> Result<Vec<Cost>, AllocError>
+    ensures { IfOk result (λ v. v.items ≡ map (cost_by digits.now)
+        (filter (known_by digits.now) (map option_copied records.now))) }
 {
-    let mut costs = Vec::with_capacity(short.allocator(), found.len())?;
-    for m in found {
-        let cost = cost_in(short, digits, m)?;
-        if knows(short, digits, m, cost)? {
+    let mut costs = Vec::with_capacity(alloc, records.len())?;
+    for row in records {
+        let cost = cost_by(*row, digits)?;
+        if is_known_by(*row, digits, cost)? {
             costs.push(cost)?;
         }
     }
     Ok(costs)
 }
 
-/// Whether the table of a territory's region knows digits, of which it tells this cost. Refused
-/// only for memory.
-fn knows(short: &Plans, digits: &str, m: &Territory, cost: Cost) -> Result<bool, AllocError>
-    requires { cost ≡ cost_in short.now digits.now m.now }
-    ensures { IfOk result (λ b. b ≡ knows short.now digits.now m.now) }
+/// Whether a record knows digits, of which it tells this cost. Refused only for memory.
+fn is_known_by(
+    row: Option<&Territory>,
+    digits: &Subject<'_>,
+    cost: Cost,
+) -> Result<bool, AllocError>
+    requires { cost ≡ cost_by digits.now (option_copied row) }
+    ensures { IfOk result (λ b. b ≡ known_by digits.now (option_copied row.entry)) }
 {
-    Ok(is_told(cost) || is_valid_in(short, digits, m)?)
+    Ok(is_told(cost) || is_valid_by(row, digits)?)
 }
 
-/// Whether digits are a short number in a territory's region. Refused only for memory.
-fn is_valid_in(short: &Plans, digits: &str, m: &Territory) -> Result<bool, AllocError>
-    ensures { IfOk result (λ b. b ≡ is_valid_in short.now digits.now m.now) }
+/// Whether digits are a short number by a record; not without one. Refused only for memory.
+fn is_valid_by(row: Option<&Territory>, digits: &Subject<'_>) -> Result<bool, AllocError>
+    ensures { IfOk result (λ b. b ≡ is_valid_by digits.now (option_copied row.entry)) }
 {
-    match m.region() {
-        Some(region) => is_valid_short(short, region, digits),
-        None => Ok(false),
+    if !is_possible_by(row, digits.as_str()) {
+        return Ok(false);
     }
+    is_number_by(row, digits)
 }
 
 /// Whether a cost is told.

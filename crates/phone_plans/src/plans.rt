@@ -240,8 +240,8 @@ impl Plans {
         &self.first_group
     }
 
-    /// The territories in order of arrival.
-    pub(crate) fn territories(&self) -> &[Territory]
+    /// The territories in order of arrival. Takes no memory.
+    pub fn territories(&self) -> &[Territory]
         ensures { result.now ≡ self.now }
     {
         self.territories.as_slice()

@@ -1,0 +1,3 @@
+pub mod Among
+pub mod Found
+pub mod Plain

@@ -1,1 +1,3 @@
 pub mod Services
+pub mod ShortNumbers
+pub mod ShortRecords

@@ -1,20 +1,18 @@
-use Rattle.std.proofs.Common.{string_bytes, rules, arith}
-use Rattle.phone_examples.specs.Lowest.{example_of_code}
-use Rattle.phone_examples.specs.Lowest
-use Rattle.phone_examples.proofs.Codes.{below_more, lowest_so}
+use Rattle.std.proofs.Common.{subst}
+use Rattle.phone_examples.specs.Lowest.{IsLeast, example_of_code, serves}
+use Rattle.phone_examples.proofs.Least.{code_link, none_lowest}
 use Rattle.phone_examples.proofs.lowest.lowest_of_codes.Goals as goal
 
-pub loop-n-init : goal.loop-n-init
-loop-n-init c = λ code h. absurd (omega (arith, h))
+pub of_lowest_code-requires : goal.of_lowest_code-requires
+of_lowest_code-requires c =
+    let db = c.args.database.now in
+    subst (IsLeast (serves db c.args.kind) db) c.in-Some.is
+    (subst (λ ms. IsLeast (serves db c.args.kind) ms c.in_ok-low.low) c.territories.ensures c.in_ok-low.ensures)
 
-pub returns-then-is_some : goal.returns-then-is_some
-returns-then-is_some c =
-    lowest_so string_bytes (example_of_code c.args.database.now c.args.kind) c.loop-n.n c.in_ok-found.found (omega (arith, c.loop-n-test.true)) c.loop-n.invariant
-    (search rules) c.in_ok-found.ensures
-
-pub loop-n-preserved : goal.loop-n-preserved
-loop-n-preserved c =
-    below_more string_bytes (example_of_code c.args.database.now c.args.kind) c.loop-n.n c.in_ok-found.found c.loop-n.invariant (search rules) c.in_ok-found.ensures
-
-pub returns : goal.returns
-returns c = Lowest.none (λ code h. c.loop-n.invariant code (omega (arith, h, c.loop-n-test.false)))
+pub returns-in-None : goal.returns-in-None
+returns-in-None c =
+    let db = c.args.database.now in
+    let k = c.args.kind in
+    let over : IsLeast (serves db k) db c.in_ok-low.low =
+    subst (λ ms. IsLeast (serves db k) ms c.in_ok-low.low) c.territories.ensures c.in_ok-low.ensures in
+    none_lowest (example_of_code db k) (serves db k) db (code_link db k) (subst (IsLeast (serves db k) db) c.in-None.is over)

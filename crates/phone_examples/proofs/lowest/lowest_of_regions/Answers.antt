@@ -1,20 +1,17 @@
-use Rattle.std.proofs.Common.{rules, arith}
-use Rattle.phone_examples.specs.Lowest.{example_of_regions, seen}
-use Rattle.phone_examples.specs.Lowest
-use Rattle.phone_examples.proofs.Codes.{below_more, lowest_so}
+use Rattle.std.proofs.Common.{subst}
+use Rattle.phone_examples.specs.Lowest.{IsLeast, example_of_regions, gives}
+use Rattle.phone_examples.proofs.Least.{none_lowest, region_link}
 use Rattle.phone_examples.proofs.lowest.lowest_of_regions.Goals as goal
 
-pub loop-n-init : goal.loop-n-init
-loop-n-init c = λ code h. absurd (omega (arith, h))
+pub of_lowest-requires : goal.of_lowest-requires
+of_lowest-requires c =
+    subst (IsLeast (gives c.args.kind) c.args.database.now) c.in-Some.is
+    (subst (λ ms. IsLeast (gives c.args.kind) ms c.lowest_giving.result) c.territories.ensures c.lowest_giving.ensures)
 
-pub returns-then-is_some : goal.returns-then-is_some
-returns-then-is_some c =
-    lowest_so seen (example_of_regions c.args.database.now c.args.kind) c.loop-n.n c.in_ok-found.found (omega (arith, c.loop-n-test.true)) c.loop-n.invariant
-    (search rules) c.in_ok-found.ensures
-
-pub loop-n-preserved : goal.loop-n-preserved
-loop-n-preserved c =
-    below_more seen (example_of_regions c.args.database.now c.args.kind) c.loop-n.n c.in_ok-found.found c.loop-n.invariant (search rules) c.in_ok-found.ensures
-
-pub returns : goal.returns
-returns c = Lowest.none (λ code h. c.loop-n.invariant code (omega (arith, h, c.loop-n-test.false)))
+pub returns-in-None : goal.returns-in-None
+returns-in-None c =
+    let db = c.args.database.now in
+    let k = c.args.kind in
+    let over : IsLeast (gives k) db c.lowest_giving.result =
+    subst (λ ms. IsLeast (gives k) ms c.lowest_giving.result) c.territories.ensures c.lowest_giving.ensures in
+    none_lowest (example_of_regions db k) (gives k) db (region_link db k) (subst (IsLeast (gives k) db) c.in-None.is over)

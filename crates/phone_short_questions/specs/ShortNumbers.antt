@@ -16,7 +16,7 @@ use Rattle.phone_short.specs.Regions.{cost, is_possible_short, record_of}
 use Rattle.phone_short.specs.declared.rates.Cost.{Cost}
 use Rattle.phone_short.specs.declared.rates.Cost.TheVariants.{PremiumRate, StandardRate, TollFree}
 use Rattle.phone_short.specs.declared.rates.Cost.TheVariants.{Unknown}
-use Rattle.phone_dialling.specs.declared.short_numbers.FactsAnywhere.{FactsAnywhere}
+use Rattle.phone_short_questions.specs.declared.short_numbers.FactsAnywhere.{FactsAnywhere}
 
 -- the region of a territory
 abbrev pub region_of : Metadata → Option Id

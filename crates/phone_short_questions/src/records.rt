@@ -1,0 +1,342 @@
+//! Short numbers by the records of the regions of a calling code: each region's is looked up once,
+//! and what is asked of it is asked of digits that were read before.
+ghost use Rattle.std.specs.Prelude.{◌≡◌, ◌==◌, IfOk, Some, map};
+ghost use Rattle.std.specs.Borrow.{Bor};
+ghost use Rattle.std.specs.List.{list_any};
+ghost use Rattle.std.specs.Option.{option_and_then, option_copied};
+ghost use Rattle.phone_records.specs.declared.loader.Metadata as loader;
+ghost use Rattle.phone_short.specs.Costs as costs;
+ghost use Rattle.phone_short.specs.Emergencies.{is_emergency_number};
+ghost use Rattle.phone_short.specs.Numbers as numbers;
+ghost use Rattle.phone_short_questions.specs.ShortNumbers.{dearest_of, is_one_cost, is_valid_by};
+ghost use Rattle.phone_short_questions.specs.ShortNumbers.{short_record};
+ghost use Rattle.phone_short_questions.specs.ShortRecords.{chosen_by, cost_by, first_code};
+ghost use Rattle.phone_short_questions.specs.ShortRecords.{if_code, is_carrier_by, is_number_by};
+ghost use Rattle.phone_short_questions.specs.ShortRecords.{is_possible_by, is_valid_among};
+ghost use Rattle.phone_short_questions.specs.ShortRecords.{short_records};
+
+use phone_pattern::Subject;
+use phone_plans::{Descriptor, Plans, Territory};
+use phone_short::Cost;
+use phonenumber::PhoneNumber;
+use std::alloc::{AllocError, Global};
+
+/// The records of short numbers of the regions of a number's calling code, in the order of the
+/// code's territories; none for a territory whose region has no short numbers, or that is no
+/// region's. Refused only for memory.
+pub fn short_records<'d>(
+    database: &Plans,
+    short: &'d Plans,
+    number: &PhoneNumber,
+) -> Result<Vec<Option<&'d Territory>>, AllocError>
+    ensures { IfOk result (λ v. map option_copied v.items ≡
+        short_records database.now short.entry.now number.now) }
+{
+    match database.by_code(&number.code().value())? {
+        Some(found) => records_of(short, found.as_slice()),
+        None => Ok(Vec::new(database.allocator())),
+    }
+}
+
+/// The records of the regions of these territories. Refused only for memory.
+fn records_of<'d>(
+    short: &'d Plans,
+    found: &[&Territory],
+) -> Result<Vec<Option<&'d Territory>>, AllocError>
+    ensures { IfOk result (λ v. map option_copied v.items ≡
+        map (short_record short.entry.now)
+        (map (λ (m : Bor loader.Metadata). m.now) found.now)) }
+{
+    let mut records = Vec::with_capacity(short.allocator(), found.len())?;
+    for m in found {
+        records.push(short_record(short, m))?;
+    }
+    Ok(records)
+}
+
+/// The short numbers of a territory's region.
+fn short_record<'d>(short: &'d Plans, m: &Territory) -> Option<&'d Territory>
+    ensures { option_copied result ≡ short_record short.entry.now m.now }
+{
+    match m.region() {
+        Some(region) => short.by_id(region.as_str()),
+        None => None,
+    }
+}
+
+/// Whether digits are possible by one of these records.
+pub(crate) fn is_possible_among(records: &[Option<&Territory>], digits: &str) -> bool
+    ensures { result ≡ list_any (is_possible_by digits.now) (map option_copied records.now) }
+{
+    for row in records {
+        if is_possible_by(*row, digits) {
+            return true;
+        }
+    }
+    false
+}
+
+/// Whether a record lists the count of digits; not without one. Takes no memory.
+pub fn is_possible_by(row: Option<&Territory>, digits: &str) -> bool
+    ensures { result ≡ is_possible_by digits.now (option_copied row.entry) }
+{
+    match row {
+        Some(m) => is_possible(m, digits),
+        None => false,
+    }
+}
+
+/// Whether the general descriptor of a record lists the count of digits.
+fn is_possible(m: &Territory, digits: &str) -> bool
+    ensures { result ≡ numbers.is_possible m.now digits.now }
+{
+    lists(m.descriptors().general().possible_length(), digits.len())
+}
+
+/// Whether a count of digits is listed.
+fn lists(lengths: &[u16], count: usize) -> bool
+    ensures { result ≡ list_any (λ n. n == count) lengths.now }
+{
+    lengths.iter().any(|n| usize::from(*n) == count)
+}
+
+/// What digits cost by these records, in their order. Refused only for memory.
+pub(crate) fn costs_by(
+    alloc: Global,
+    records: &[Option<&Territory>],
+    digits: &Subject<'_>,
+) -> Result<Vec<Cost>, AllocError>
+    ensures { IfOk result (λ v. v.items ≡
+        map (cost_by digits.now) (map option_copied records.now)) }
+{
+    let mut costs = Vec::with_capacity(alloc, records.len())?;
+    for row in records {
+        costs.push(cost_by(*row, digits)?)?;
+    }
+    Ok(costs)
+}
+
+/// What digits cost by a record: of premium rate, standard rate and toll free the first whose
+/// descriptor has them; without one an emergency number is free. Unknown for all others, where the
+/// digits aren't possible, and without a record. Refused only for memory.
+pub fn cost_by(row: Option<&Territory>, digits: &Subject<'_>) -> Result<Cost, AllocError>
+    ensures { IfOk result (λ c. c ≡ cost_by digits.now (option_copied row.entry)) }
+{
+    match row {
+        Some(m) => cost_in(m, digits),
+        None => Ok(Cost::Unknown),
+    }
+}
+
+/// What digits cost by a record that is there. Refused only for memory.
+fn cost_in(m: &Territory, digits: &Subject<'_>) -> Result<Cost, AllocError>
+    ensures { IfOk result (λ c. c ≡ costs.cost_in m.now digits.now) }
+{
+    if !is_possible(m, digits.as_str()) {
+        return Ok(Cost::Unknown);
+    }
+    let kinds = m.descriptors();
+    if has_number(kinds.premium_rate(), digits)? {
+        return Ok(Cost::PremiumRate);
+    }
+    if has_number(kinds.standard_rate(), digits)? {
+        return Ok(Cost::StandardRate);
+    }
+    if has_number(kinds.toll_free(), digits)? {
+        return Ok(Cost::TollFree);
+    }
+    otherwise(m, digits)
+}
+
+/// What digits cost that no descriptor of a cost has. Refused only for memory.
+fn otherwise(m: &Territory, digits: &Subject<'_>) -> Result<Cost, AllocError>
+    ensures { IfOk result (λ c. c ≡ costs.otherwise m.now digits.now) }
+{
+    if is_emergency_number(m, digits)? {
+        Ok(Cost::TollFree)
+    } else {
+        Ok(Cost::Unknown)
+    }
+}
+
+/// Whether the pattern of a record's emergency numbers matches all of the digits. Refused only for
+/// memory.
+fn is_emergency_number(m: &Territory, digits: &Subject<'_>) -> Result<bool, AllocError>
+    ensures { IfOk result (λ b. b ≡ is_emergency_number m.now digits.now) }
+{
+    match m.descriptors().emergency() {
+        Some(descriptor) => descriptor.pattern().is_whole_match_in(digits),
+        None => Ok(false),
+    }
+}
+
+/// Whether a descriptor is there and has the digits. Refused only for memory.
+fn has_number(descriptor: Option<&Descriptor>, digits: &Subject<'_>) -> Result<bool, AllocError>
+    ensures { IfOk result (λ b. b ≡
+        numbers.has_number (option_copied descriptor.entry) digits.now) }
+{
+    match descriptor {
+        Some(descriptor) => has_digits(descriptor, digits),
+        None => Ok(false),
+    }
+}
+
+/// Whether a descriptor allows the count of the digits, and its pattern matches all of them.
+/// Refused only for memory.
+fn has_digits(descriptor: &Descriptor, digits: &Subject<'_>) -> Result<bool, AllocError>
+    ensures { IfOk result (λ b. b ≡ numbers.has_number (Some descriptor.now) digits.now) }
+{
+    if !descriptor.allows_length(digits.as_str().len()) {
+        return Ok(false);
+    }
+    descriptor.pattern().is_whole_match_in(digits)
+}
+
+/// Of costs the first there is of premium rate, an unknown cost, standard rate and nothing; unknown
+/// without one. Takes no memory.
+pub fn dearest_of(costs: &[Cost]) -> Cost
+    ensures { result ≡ dearest_of costs.now }
+{
+    if has_cost(costs, Cost::PremiumRate) {
+        Cost::PremiumRate
+    } else if has_cost(costs, Cost::Unknown) {
+        Cost::Unknown
+    } else if has_cost(costs, Cost::StandardRate) {
+        Cost::StandardRate
+    } else if has_cost(costs, Cost::TollFree) {
+        Cost::TollFree
+    } else {
+        Cost::Unknown
+    }
+}
+
+/// Whether a cost is among others.
+fn has_cost(costs: &[Cost], wanted: Cost) -> bool
+    ensures { result ≡ list_any (is_one_cost wanted) costs.now }
+{
+    costs.iter().any(|cost| is_one_cost(wanted, *cost))
+}
+
+/// Whether two costs are one.
+fn is_one_cost(a: Cost, b: Cost) -> bool
+    ensures { result ≡ is_one_cost a b }
+{
+    match (a, b) {
+        (Cost::PremiumRate, Cost::PremiumRate) => true,
+        (Cost::StandardRate, Cost::StandardRate) => true,
+        (Cost::TollFree, Cost::TollFree) => true,
+        (Cost::Unknown, Cost::Unknown) => true,
+        _ => false,
+    }
+}
+
+/// The record that is chosen of these for digits: the only one, or of several the first of which
+/// they are a short code. Refused only for memory.
+pub(crate) fn chosen_by<'d>(
+    records: &[Option<&'d Territory>],
+    digits: &Subject<'_>,
+) -> Result<Option<&'d Territory>, AllocError>
+    ensures { IfOk result (λ m. option_copied m ≡
+        chosen_by digits.now (map option_copied records.now)) }
+{
+    match records {
+        [] => Ok(None),
+        [only] => Ok(*only),
+        several => first_code(several, digits),
+    }
+}
+
+/// The first of these records of which digits are a short code. Refused only for memory.
+fn first_code<'d>(
+    records: &[Option<&'d Territory>],
+    digits: &Subject<'_>,
+) -> Result<Option<&'d Territory>, AllocError>
+    ensures { IfOk result (λ m. option_copied m ≡
+        first_code digits.now (map option_copied records.now)) }
+{
+    for row in records {
+        let found = if_code(*row, digits)?;
+        if found.is_some() {
+            return Ok(found);
+        }
+    }
+    Ok(None)
+}
+
+/// A record, where it is there and digits are a short code of it. Refused only for memory.
+fn if_code<'d>(
+    row: Option<&'d Territory>,
+    digits: &Subject<'_>,
+) -> Result<Option<&'d Territory>, AllocError>
+    ensures { IfOk result (λ m. option_copied m ≡
+        option_and_then (if_code digits.now) (option_copied row.entry)) }
+{
+    match row {
+        Some(m) => if_its_code(m, digits),
+        None => Ok(None),
+    }
+}
+
+/// A record, where digits are a short code of it. Refused only for memory.
+fn if_its_code<'d>(
+    m: &'d Territory,
+    digits: &Subject<'_>,
+) -> Result<Option<&'d Territory>, AllocError>
+    ensures { IfOk result (λ found. option_copied found ≡ if_code digits.now m.entry.now) }
+{
+    if has_number(m.descriptors().short_code(), digits)? {
+        Ok(Some(m))
+    } else {
+        Ok(None)
+    }
+}
+
+/// Whether digits are valid by these records, of which one is chosen for them, or none. Refused
+/// only for memory.
+pub(crate) fn is_valid_by_chosen(
+    records: &[Option<&Territory>],
+    chosen: Option<&Territory>,
+    digits: &Subject<'_>,
+) -> Result<bool, AllocError>
+    requires { option_copied chosen ≡ chosen_by digits.now (map option_copied records.now) }
+    ensures { IfOk result (λ b. b ≡
+        is_valid_among digits.now (map option_copied records.now)) }
+{
+    match records {
+        [] => Ok(false),
+        [only] => is_number_by(*only, digits),
+        _ => Ok(chosen.is_some()),
+    }
+}
+
+/// Whether digits are a number and a short code of a record; not without one. Refused only for
+/// memory.
+pub fn is_number_by(row: Option<&Territory>, digits: &Subject<'_>) -> Result<bool, AllocError>
+    ensures { IfOk result (λ b. b ≡ is_number_by digits.now (option_copied row.entry)) }
+{
+    match row {
+        Some(m) => is_valid_by(m, digits),
+        None => Ok(false),
+    }
+}
+
+/// Whether digits are a number and a short code of a record that is there. Refused only for memory.
+fn is_valid_by(m: &Territory, digits: &Subject<'_>) -> Result<bool, AllocError>
+    ensures { IfOk result (λ b. b ≡ is_valid_by digits.now m.now) }
+{
+    let kinds = m.descriptors();
+    Ok(has_number(Some(kinds.general()), digits)? && has_number(kinds.short_code(), digits)?)
+}
+
+/// Whether digits are a carrier's by a record; not without one. Refused only for memory.
+pub(crate) fn is_carrier_by(
+    row: Option<&Territory>,
+    digits: &Subject<'_>,
+) -> Result<bool, AllocError>
+    ensures { IfOk result (λ b. b ≡ is_carrier_by digits.now (option_copied row.entry)) }
+{
+    match row {
+        Some(m) => has_number(m.descriptors().carrier(), digits),
+        None => Ok(false),
+    }
+}
