@@ -4,7 +4,7 @@ use Rattle.std.proofs.lemmas.Option.{none-some, same_Some}
 use Rattle.phone_values.specs.declared.mode.Mode.TheVariants.{E164, International, National}
 use Rattle.phone_values.specs.declared.reading.Reading.{Reading}
 use Rattle.phone_records.specs.declared.loader.Metadata.{Metadata}
-use Rattle.phone_print.specs.Texts.{e164_text, text_by}
+use Rattle.phone_print.specs.Texts.{e164_text, text_by_rules}
 use Rattle.phone_maps.specs.Maps.{digits_of}
 use Rattle.phone_engine.specs.Facts.{printed_as}
 use Rattle.phone_values.specs.declared.rules.Rules.{Rules}
@@ -15,17 +15,17 @@ use Rattle.phone_answers.specs.declared.answer.Answer.{Answer}
 use Rattle.phone_answers.specs.declared.answer.Answer.TheVariants.{Number, Refused, Short}
 
 -- the texts of a number in three modes, by one territory
-pub record HaveTexts (o : Option Metadata) (n : Reading) (a b c : List ℕ) : Type 0 where
+pub record HaveTexts (rules : Rules) (o : Option Metadata) (n : Reading) (a b c : List ℕ) : Type 0 where
   pub m : Metadata
   pub first : o ≡ Some m
-  pub e164 : a ≡ text_by m E164 None n
-  pub international : b ≡ text_by m International None n
-  pub national : c ≡ text_by m National None n
+  pub e164 : a ≡ text_by_rules rules m E164 None n
+  pub international : b ≡ text_by_rules rules m International None n
+  pub national : c ≡ text_by_rules rules m National None n
 
-pub three_texts : (o : Option Metadata) (n : Reading) (a b c : List ℕ) → option_map (λ m. text_by m E164 None n) o ≡ Some a →
-    option_map (λ m. text_by m International None n) o ≡ Some b → option_map (λ m. text_by m National None n) o ≡ Some c → HaveTexts o n a b c
-three_texts None n a b c e f g = absurd (none-some a e)
-three_texts (Some m) n a b c e f g = record {
+pub three_texts : (rules : Rules) (o : Option Metadata) (n : Reading) (a b c : List ℕ) → option_map (λ m. text_by_rules rules m E164 None n) o ≡ Some a →
+    option_map (λ m. text_by_rules rules m International None n) o ≡ Some b → option_map (λ m. text_by_rules rules m National None n) o ≡ Some c → HaveTexts rules o n a b c
+three_texts rules None n a b c e f g = absurd (none-some a e)
+three_texts rules (Some m) n a b c e f g = record {
   m = m;
   first = refl;
   e164 = sym (same_Some _ _ e);

@@ -2,7 +2,7 @@
 use Rattle.std.proofs.Common.{◌≡◌, ℕ, List, [], ◌∷◌, None, map, refl, ap₂, string_bytes}
 use Rattle.phone_engine.specs.Facts.{is_valid_by, kind_by, printed_as, region_by}
 use Rattle.phone_engine.specs.Words.{kind_word, region_word, validity_word}
-use Rattle.phone_print.specs.Texts.{text_by}
+use Rattle.phone_print.specs.Texts.{text_by_rules}
 use Rattle.phone_records.specs.declared.loader.Metadata.{Metadata}
 use Rattle.phone_values.specs.declared.mode.Mode.TheVariants as mode
 use Rattle.phone_values.specs.declared.reading.Reading.{Reading}
@@ -23,9 +23,9 @@ in_answer_by told Validity = refl
 in_answer_by told Refusal = refl
 
 -- each field tells of a number by what is known of it
-pub known_told : (rules : Rules) (db : List Metadata) (m : Metadata) (n : Reading) (k : Known) → string_bytes k.texts.e164 ≡ text_by m mode.E164 None (printed_as rules n) →
-    string_bytes k.texts.international ≡ text_by m mode.International None (printed_as rules n) →
-    string_bytes k.texts.national ≡ text_by m mode.National None (printed_as rules n) → kind_word k.facts.kind ≡ kind_word (kind_by rules db n) →
+pub known_told : (rules : Rules) (db : List Metadata) (m : Metadata) (n : Reading) (k : Known) → string_bytes k.texts.e164 ≡ text_by_rules rules m mode.E164 None (printed_as rules n) →
+    string_bytes k.texts.international ≡ text_by_rules rules m mode.International None (printed_as rules n) →
+    string_bytes k.texts.national ≡ text_by_rules rules m mode.National None (printed_as rules n) → kind_word k.facts.kind ≡ kind_word (kind_by rules db n) →
     region_word k.facts.region ≡ region_word (region_by rules db n) → validity_word k.facts.is_valid ≡ validity_word (is_valid_by rules db n) →
     (field : Field) → of_known k field ≡ of_number rules db m n field
 known_told rules db m n k e164 international national kind region validity E164 = e164

@@ -1,4 +1,5 @@
 pub mod AnswerLemmas
+pub mod BesideLemmas
 pub mod ExtraLemmas
 pub mod FieldLemmas
 pub mod ObjectLemmas

@@ -24,9 +24,12 @@ use Rattle.phone_answers.specs.Answers.IsFieldAnswer.{no_text, of_text}
 use Rattle.phone_answers.specs.Answers.IsReply.{blank, read, refused}
 use Rattle.phone_answers.specs.Answers.IsTextAnswer.{emergency, no_short_number, short_number}
 use Rattle.phone_answers.specs.Answers.IsTextAnswer.{valid_number}
+use Rattle.phone_answers.specs.Extras.{AreTold, EachHasOneText}
 use Rattle.phone_answers.specs.Objects.{IsObject, IsObjectLine, object_of}
 use Rattle.phone_answers.specs.Objects.IsObject.{no_text as no_text_object, of_text as object_of_text}
 use Rattle.phone_answers.specs.Shorts.{short_answer, short_in}
+use Rattle.phone_answers.specs.declared.extra.Extra.{Extra}
+use Rattle.phone_answers.proofs.OneTold.{all_told_same}
 
 -- two answers are one, of one number or of none
 abbrev pub AreSame : (n k : Option Reading) → (a b : Record) → Type 0
@@ -145,22 +148,37 @@ one_field_answer rules db short hint field _ _ _ _ (of_text n a u h) (no_text y)
 one_field_answer rules db short hint field _ _ _ _ (of_text n a u h) (of_text k b w g) =
     text_same rules db hint field short n k a b h g
 
-module _ (rules : Rules) (db : List Metadata) (short : Option (List Metadata)) (hint : Option Id)
-    (place : ℕ) (line : List ℕ) where
+module _ (rules : Rules) (db : List Metadata) (short : Option (List Metadata)) (extra : List Extra)
+    (hint : Option Id) (place : ℕ) (line : List ℕ) where
+  same_object : (text : Data) (n k : Option Reading) (a b told other : Record) →
+      EachHasOneText extra → AreSame n k a b →
+      AreTold rules db (Some hint) line n extra told →
+      AreTold rules db (Some hint) line k extra other →
+      object_of rules db place text n a extra told ≡ object_of rules db place text k b extra other
+  same_object text n k a b told other one same t u =
+      let told_of_one = subst (λ x. AreTold rules db (Some hint) line x extra told) same.0 t in
+      ap₂ (λ x y. object_of rules db place text x y extra told) same.0 same.1 ∙
+      ap (object_of rules db place text k b extra)
+      (all_told_same rules db (Some hint) line k extra told other one told_of_one u)
+
   -- a line has one object
-  pub one_line_object : (d e : Data) → IsObject rules db short hint place line d →
-      IsObject rules db short hint place line e → d ≡ e
-  one_line_object _ _ (no_text_object n a x h) (no_text_object k b y g) =
-      let same = one_field_answer rules db short hint line n k a b h g in
-      ap₂ (object_of rules db place null) same.0 same.1
-  one_line_object _ _ (no_text_object n a x h) (object_of_text k b u g) = absurd (x u)
-  one_line_object _ _ (object_of_text n a u h) (no_text_object k b y g) = absurd (y u)
-  one_line_object _ _ (object_of_text n a u h) (object_of_text k b w g) =
-      let same = one_field_answer rules db short hint line n k a b h g in
-      ap₂ (object_of rules db place (string line)) same.0 same.1
+  pub one_line_object : (d e : Data) → EachHasOneText extra →
+      IsObject rules db short extra hint place line d →
+      IsObject rules db short extra hint place line e → d ≡ e
+  one_line_object _ _ one (no_text_object n a told x h t) (no_text_object k b other y g u) =
+      same_object null n k a b told other one
+      (one_field_answer rules db short hint line n k a b h g) t u
+  one_line_object _ _ one (no_text_object n a told x h t) (object_of_text k b other u g s) =
+      absurd (x u)
+  one_line_object _ _ one (object_of_text n a told u h t) (no_text_object k b other y g s) =
+      absurd (y u)
+  one_line_object _ _ one (object_of_text n a told u h t) (object_of_text k b other w g s) =
+      same_object (string line) n k a b told other one
+      (one_field_answer rules db short hint line n k a b h g) t s
 
   -- and one text of it
-  pub one_object_line : (a b : List ℕ) → IsObjectLine rules db short hint place line a →
-      IsObjectLine rules db short hint place line b → a ≡ b
-  one_object_line a b h g =
-      h.2 ∙ ap compact_text (one_line_object h.0 g.0 h.1 g.1) ∙ sym g.2
+  pub one_object_line : (a b : List ℕ) → EachHasOneText extra →
+      IsObjectLine rules db short extra hint place line a →
+      IsObjectLine rules db short extra hint place line b → a ≡ b
+  one_object_line a b one h g =
+      h.2 ∙ ap compact_text (one_line_object h.0 g.0 one h.1 g.1) ∙ sym g.2

@@ -21,9 +21,12 @@ use Rattle.phone_answers.specs.Answers.IsFieldAnswer.{no_text, of_text}
 use Rattle.phone_answers.specs.Answers.IsReply.{blank, read, refused}
 use Rattle.phone_answers.specs.Answers.IsTextAnswer.{emergency, no_short_number, short_number}
 use Rattle.phone_answers.specs.Answers.IsTextAnswer.{valid_number}
+use Rattle.phone_answers.specs.Extras.{ask_fields}
 use Rattle.phone_answers.specs.Objects.{IsObject, object_of}
 use Rattle.phone_answers.specs.Objects.IsObject.{no_text as no_text_object, of_text as object_of_text}
 use Rattle.phone_answers.specs.Shorts.{short_answer, short_in}
+use Rattle.phone_answers.specs.declared.extra.Extra.{Extra}
+use Rattle.phone_answers.proofs.SomeTold.{all_told}
 
 module _ (rules : Rules) (db : List Metadata) (hint : Option Id) (text : List ℕ) where
   -- a reply to the text
@@ -79,11 +82,17 @@ module _ (rules : Rules) (db : List Metadata) (hint : Option Id) (text : List �
 
 -- a line has an object where it has an answer
 pub object_of_answer : (rules : Rules) (db : List Metadata) (short : Option (List Metadata))
-    (hint : Option Id) (place : ℕ) (line : List ℕ) (n : Option Reading) (a : Record) →
-    IsFieldAnswer rules db short hint line n a →
-    (d : Data) × IsObject rules db short hint place line d
-object_of_answer rules db short hint place line _ _ (no_text x) =
+    (extra : List Extra) (hint : Option Id) (place : ℕ) (line : List ℕ) (n : Option Reading)
+    (a : Record) → ask_fields extra ≡ false → IsFieldAnswer rules db short hint line n a →
+    (d : Data) × IsObject rules db short extra hint place line d
+object_of_answer rules db short extra hint place line _ _ others (no_text x) =
     let words = refused_answer (codes "not UTF-8") in
-    (object_of rules db place null None words, no_text_object None words x (no_text x))
-object_of_answer rules db short hint place line _ _ (of_text n a u h) =
-    (object_of rules db place (string line) n a, object_of_text n a u (of_text n a u h))
+    let told = all_told rules db (Some hint) line None extra others in (
+      object_of rules db place null None words extra told.0,
+      no_text_object None words told.0 x (no_text x) told.1,
+    )
+object_of_answer rules db short extra hint place line _ _ others (of_text n a u h) =
+    let told = all_told rules db (Some hint) line n extra others in (
+      object_of rules db place (string line) n a extra told.0,
+      object_of_text n a told.0 u (of_text n a u h) told.1,
+    )

@@ -5,7 +5,7 @@ use Rattle.std.specs.Borrow.{Bor}
 use Rattle.phone_csv.specs.Formats.{Record}
 use Rattle.phone_engine.specs.Facts.{is_valid_by, kind_by, printed_as, region_by}
 use Rattle.phone_engine.specs.Words.{kind_word, region_word, validity_word}
-use Rattle.phone_print.specs.Texts.{text_by}
+use Rattle.phone_print.specs.Texts.{text_by_rules}
 use Rattle.phone_records.specs.declared.loader.Metadata.{Metadata}
 use Rattle.phone_short.specs.Kinds.{kind_name}
 use Rattle.phone_short.specs.declared.kind.ShortKind.{ShortKind}
@@ -51,9 +51,10 @@ from_end Refusal = 1
 -- what a field tells of a number of a listed code: one of its texts in three modes, or what is
 -- known of it; no refusal
 abbrev pub of_number : Rules → List Metadata → Metadata → Reading → Field → List ℕ
-of_number rules db m n E164 = text_by m mode.E164 None (printed_as rules n)
-of_number rules db m n International = text_by m mode.International None (printed_as rules n)
-of_number rules db m n National = text_by m mode.National None (printed_as rules n)
+of_number rules db m n E164 = text_by_rules rules m mode.E164 None (printed_as rules n)
+of_number rules db m n International =
+    text_by_rules rules m mode.International None (printed_as rules n)
+of_number rules db m n National = text_by_rules rules m mode.National None (printed_as rules n)
 of_number rules db m n Kind = kind_word (kind_by rules db n)
 of_number rules db m n Region = region_word (region_by rules db n)
 of_number rules db m n Validity = validity_word (is_valid_by rules db n)

@@ -338,7 +338,7 @@ fn split_in(told: Told) -> Option<(Which, Shown)>
 }
 
 /// What a column tells of a field. Refused only for memory.
-fn told_by<'a>(
+pub(crate) fn told_by<'a>(
     engine: Engine<'_>,
     column: &Extra<'a>,
     subject: Subject<'a>,

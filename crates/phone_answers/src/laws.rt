@@ -1,7 +1,7 @@
 //! What holds of answers. These functions do nothing, but for those that read a text to show that
 //! it has an answer; their contracts are the statements.
 ghost use Rattle.std.specs.Prelude.{◌≡◌, ℕ, List, None, Option, Some, chars};
-ghost use Rattle.std.specs.Prelude.{true};
+ghost use Rattle.std.specs.Prelude.{false, true};
 ghost use Rattle.std.specs.Str.{IsUtf8};
 ghost use Rattle.serde_json.specs.Data.{Data};
 ghost use Rattle.phone_values.specs.declared.country.Id.{Id};
@@ -13,9 +13,10 @@ ghost use Rattle.phone_short.specs.Regions.{short_kind};
 ghost use Rattle.phone_short.specs.declared.kind.ShortKind.TheVariants as kind;
 ghost use Rattle.phone_prefixes.specs.Tables as prefixes;
 ghost use Rattle.phone_answers.specs.Answers.{IsFieldAnswer};
-ghost use Rattle.phone_answers.specs.Extras.{HaveOneText};
+ghost use Rattle.phone_answers.specs.Extras.{EachHasOneText, HaveOneText, ask_fields};
 ghost use Rattle.phone_answers.specs.Objects.{IsObject, IsObjectLine};
 ghost use Rattle.phone_answers.specs.Shorts.{is_number_alone, short_answer};
+ghost use Rattle.phone_answers.specs.declared.extra.Extra as extra;
 
 use phone_engine::laws::some_reading;
 
@@ -57,24 +58,27 @@ pub fn loaded_tables()
 {}
 
 /// By either rules a line has one object at most, and one text of it, under each database, database
-/// of short numbers and hint.
+/// of short numbers and hint, where of each prefix the columns' tables have one text.
 pub fn one_object()
     ensures object { (rules : Rules) (db : List loader.Metadata)
-        (short : Option (List loader.Metadata)) (hint : Option Id) (place : ℕ) (line : List ℕ)
-        (d e : Data) → IsObject rules db short hint place line d →
-        IsObject rules db short hint place line e → d ≡ e }
+        (short : Option (List loader.Metadata)) (columns : List extra.Extra) (hint : Option Id)
+        (place : ℕ) (line : List ℕ) (d e : Data) → EachHasOneText columns →
+        IsObject rules db short columns hint place line d →
+        IsObject rules db short columns hint place line e → d ≡ e }
     ensures text { (rules : Rules) (db : List loader.Metadata)
-        (short : Option (List loader.Metadata)) (hint : Option Id) (place : ℕ)
-        (line a b : List ℕ) → IsObjectLine rules db short hint place line a →
-        IsObjectLine rules db short hint place line b → a ≡ b }
+        (short : Option (List loader.Metadata)) (columns : List extra.Extra) (hint : Option Id)
+        (place : ℕ) (line a b : List ℕ) → EachHasOneText columns →
+        IsObjectLine rules db short columns hint place line a →
+        IsObjectLine rules db short columns hint place line b → a ≡ b }
 {}
 
 /// By either rules each line has an object, whatever its number, under each database, database of
-/// short numbers and hint.
+/// short numbers and hint, beside columns that tell nothing of the line itself.
 pub fn some_object(line: &[u8])
     ensures { (rules : Rules) (db : List loader.Metadata) (short : Option (List loader.Metadata))
-        (hint : Option Id) (place : ℕ) →
-        (d : Data) × IsObject rules db short hint place line.now d }
+        (columns : List extra.Extra) (hint : Option Id) (place : ℕ) →
+        ask_fields columns ≡ false →
+        (d : Data) × IsObject rules db short columns hint place line.now d }
 {
     some_answer(line);
 }

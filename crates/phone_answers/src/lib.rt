@@ -3,6 +3,7 @@
 #![tactic(auto)]
 
 mod answer;
+mod beside;
 mod extra;
 mod field;
 pub mod finds;

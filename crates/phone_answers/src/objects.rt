@@ -5,15 +5,16 @@ ghost use Rattle.serde_json.specs.Data.{Data, null, put, string, unsigned};
 ghost use Rattle.serde_json.specs.Data as json;
 ghost use Rattle.serde_json.specs.View.{view};
 ghost use Rattle.phone_answers.specs.Cells.{spelled_by};
-ghost use Rattle.phone_answers.specs.Objects.{AreMade, IsObject, IsObjectLine, object_of};
-ghost use Rattle.phone_answers.specs.Objects.{with_fields, with_parts};
+ghost use Rattle.phone_answers.specs.Objects.{AreMade, IsObject, IsObjectLine, IsObjectOf};
+ghost use Rattle.phone_answers.specs.Objects.{members_of, with_fields, with_parts};
 ghost use Rattle.phone_answers.specs.Parts.{part_told};
-ghost use Rattle.phone_answers.specs.Spelled.{number_in, spelled};
+ghost use Rattle.phone_answers.specs.Spelled.{IsKnownIn, number_in, spelled};
 ghost use Rattle.phone_records.specs.declared.loader.Metadata as loader;
 ghost use Rattle.phone_values.specs.declared.rules.Rules.{Rules};
 
 use crate::answer::{Answer, answer_to, cells_of};
-use crate::extra::number_of;
+use crate::beside::with_told;
+use crate::extra::{Extra, Subject, number_of};
 use crate::field::{Cells, Field};
 use crate::parts::{Part, part_told};
 use phone_engine::Engine;
@@ -25,7 +26,8 @@ use std::alloc::{AllocError, Global};
 /// The JSON text of a line's answer by this engine, on one line: an object of the line's number,
 /// which the caller counts, its text, and the fields of its answer, each a text by its name; then,
 /// of the number that was read, `calling_code`, `national_number`, `possibility`, which has the
-/// words of `Part::Possibility`, and `area_code`, also texts. A field that there is none for is
+/// words of `Part::Possibility`, and `area_code`, also texts; and what further columns tell of the
+/// line, each by its heading, in place of a member of that name. A field that there is none for is
 /// empty, but a region that is none is a hyphen, as in a table. The text is null where the line
 /// isn't UTF-8. The line is without its end. Where there is a database of short numbers and a hint,
 /// an emergency number of the hint's region always has the type `Emergency`, and another short
@@ -34,13 +36,15 @@ use std::alloc::{AllocError, Global};
 pub fn object_line(
     engine: Engine<'_>,
     short: Option<&Plans>,
+    extra: &[Extra<'_>],
     place: u64,
     line: &[u8],
 ) -> Result<String, AllocError>
     ensures { IfOk result (λ s. IsObjectLine engine.entry.rules engine.entry.database.now
-        (option_map (λ d. d.now) short.entry) engine.entry.hint place line.now (string_bytes s)) }
+        (option_map (λ d. d.now) short.entry) extra.now engine.entry.hint place line.now
+        (string_bytes s)) }
 {
-    let object = object(engine, short, place, line)?;
+    let object = object(engine, short, extra, place, line)?;
     object.to_string(engine.database.allocator())
 }
 
@@ -48,16 +52,23 @@ pub fn object_line(
 fn object(
     engine: Engine<'_>,
     short: Option<&Plans>,
+    extra: &[Extra<'_>],
     place: u64,
     line: &[u8],
 ) -> Result<Value, AllocError>
     ensures { IfOk result (λ v. IsObject engine.entry.rules engine.entry.database.now
-        (option_map (λ d. d.now) short.entry) engine.entry.hint place line.now (view v)) }
+        (option_map (λ d. d.now) short.entry) extra.now engine.entry.hint place line.now
+        (view v)) }
 {
     let answer = answer_to(engine, short, line)?;
+    let subject = Subject {
+        under: Some(engine.hint),
+        field: line,
+        answer: &answer,
+    };
     match std::str::from_utf8(line) {
-        Ok(text) => object_of_text(engine, place, text, &answer),
-        Err(_) => object_without_text(engine, place, &answer),
+        Ok(text) => object_of_text(engine, extra, place, text, subject),
+        Err(_) => object_without_text(engine, extra, place, subject),
     }
 }
 
@@ -178,42 +189,68 @@ fn with_parts(members: Members, engine: Engine<'_>, number: Option<&PhoneNumber>
     }
 }
 
-/// The object of a line, by its text or null.
-fn object_of(
+/// The members of the object of a line but for what columns tell, by its text or null, unless
+/// memory was or is refused.
+fn members_of(
     engine: Engine<'_>,
     place: u64,
     text: Result<Value, AllocError>,
     answer: &Answer,
-) -> Result<Value, AllocError>
-    ensures { (t : Data) → IfOk text (λ v. view v ≡ t) →
-        IfOk result (λ v. view v ≡ object_of engine.entry.rules engine.entry.database.now place t
-        (number_in answer.now) (spelled answer.now)) }
+) -> Members
+    ensures { (t : Data) → IfOk text (λ v. view v ≡ t) → AreMade result
+        (members_of engine.entry.rules engine.entry.database.now place t (number_in answer.now)
+        (spelled answer.now)) }
 {
     let alloc = engine.database.allocator();
     let members = with_number(Ok(Map::new(alloc)), alloc, "line", place);
     let members = with_value(members, alloc, "text", text);
     let members = with_fields(members, alloc, &Field::ALL, cells_of(answer));
-    object_with(with_parts(members, engine, number_of(answer)))
+    with_parts(members, engine, number_of(answer))
+}
+
+/// The object of a line, by its text or null.
+fn object_of(
+    engine: Engine<'_>,
+    extra: &[Extra<'_>],
+    place: u64,
+    text: Result<Value, AllocError>,
+    subject: Subject<'_>,
+) -> Result<Value, AllocError>
+    requires { IsKnownIn engine.rules engine.database.now subject.answer.now }
+    ensures { (t : Data) → IfOk text (λ v. view v ≡ t) → IfOk result (λ v. IsObjectOf
+        engine.entry.rules engine.entry.database.now extra.now place t subject.entry (view v)) }
+{
+    let made = members_of(engine, place, text, subject.answer)?;
+    let members = with_told(made, engine, extra, subject)?;
+    Ok(Value::Object(members))
 }
 
 /// The object of a text.
 fn object_of_text(
     engine: Engine<'_>,
+    extra: &[Extra<'_>],
     place: u64,
     text: &str,
-    answer: &Answer,
+    subject: Subject<'_>,
 ) -> Result<Value, AllocError>
-    ensures { IfOk result (λ v. view v ≡ object_of engine.entry.rules engine.entry.database.now
-        place (string text.now) (number_in answer.now) (spelled answer.now)) }
+    requires { IsKnownIn engine.rules engine.database.now subject.answer.now }
+    ensures { IfOk result (λ v. IsObjectOf engine.entry.rules engine.entry.database.now extra.now
+        place (string text.now) subject.entry (view v)) }
 {
     let value = Value::try_from_str(engine.database.allocator(), text);
-    object_of(engine, place, value, answer)
+    object_of(engine, extra, place, value, subject)
 }
 
 /// The object of a line that is no text.
-fn object_without_text(engine: Engine<'_>, place: u64, answer: &Answer) -> Result<Value, AllocError>
-    ensures { IfOk result (λ v. view v ≡ object_of engine.entry.rules engine.entry.database.now
-        place null (number_in answer.now) (spelled answer.now)) }
+fn object_without_text(
+    engine: Engine<'_>,
+    extra: &[Extra<'_>],
+    place: u64,
+    subject: Subject<'_>,
+) -> Result<Value, AllocError>
+    requires { IsKnownIn engine.rules engine.database.now subject.answer.now }
+    ensures { IfOk result (λ v. IsObjectOf engine.entry.rules engine.entry.database.now extra.now
+        place null subject.entry (view v)) }
 {
-    object_of(engine, place, Ok(Value::Null), answer)
+    object_of(engine, extra, place, Ok(Value::Null), subject)
 }

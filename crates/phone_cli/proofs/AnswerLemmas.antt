@@ -2,6 +2,7 @@
 use Rattle.std.proofs.Common.{◌≡◌, ℕ, List, [], ◌∷◌, ◌++◌, Option}
 use Rattle.std.proofs.Common.{Result, Ok, ap, ap₂, refl, subst, ◌∙◌}
 use Rattle.std.specs.Prelude.{⊤, option_map}
+use Rattle.phone_commands.specs.Columns.{Extras}
 use Rattle.phone_commands.specs.EncodedJobs.{ActsIn}
 use Rattle.phone_commands.specs.FoundLines.{IsFoundLine, in_front, name_told}
 use Rattle.phone_commands.specs.Inputs.{InputsEnd, IsAnswered, IsStandard, Name}
@@ -92,39 +93,52 @@ report_by e files r before after last end =
 -- objects
 abbrev pub ObjectsGive : Objects → List ℕ → List ℕ → Objects → Type 0
 ObjectsGive o line answer after = IsObjectLine o.reader.engine.rules
-    o.reader.engine.database.now (option_map (λ d. d.now) o.reader.short) o.reader.engine.hint
-    o.place line answer × (after ≡ record o { place = after_one o.place })
+    o.reader.engine.database.now (option_map (λ d. d.now) o.reader.short) o.extra.now
+    o.reader.engine.hint o.place line answer × (after ≡ record o { place = after_one o.place })
 
-abbrev pub ReaderGives : Reader → ℕ → List ℕ → List ℕ → ℕ → Type 0
-ReaderGives r = GivesObjects r.engine.rules r.engine.database.now
-    (option_map (λ d. d.now) r.short) r.engine.hint
+abbrev pub ReaderGives : Reader → Extras → ℕ → List ℕ → List ℕ → ℕ → Type 0
+ReaderGives r extra = GivesObjects r.engine.rules r.engine.database.now
+    (option_map (λ d. d.now) r.short) extra r.engine.hint
+
+-- what objects have that stays
+record AreObjectsOf (o k : Objects) : Type 0 where
+  reader : k.reader ≡ o.reader
+  extra : k.extra ≡ o.extra
+
+objects_kept : (o a b : Objects) → AreObjectsOf o a → b.reader ≡ a.reader → b.extra ≡ a.extra → AreObjectsOf o b
+objects_kept o a b h e f = record { reader = e ∙ h.reader; extra = f ∙ h.extra }
+
+objects_given : (o a : Objects) (line answer : List ℕ) (b : Objects) → AreObjectsOf o a → ObjectsGive a line answer b →
+    ReaderGives o.reader o.extra.now a.place line answer b.place × AreObjectsOf o b
+objects_given o a line answer b h is =
+    let by_reader = subst (λ (r : Reader). IsObjectLine r.engine.rules r.engine.database.now
+    (option_map (λ d. d.now) r.short) a.extra.now r.engine.hint a.place line answer) h.reader is.0 in (
+      (
+        subst (λ extra. IsObjectLine o.reader.engine.rules o.reader.engine.database.now
+            (option_map (λ d. d.now) o.reader.short) extra o.reader.engine.hint a.place line answer) (ap (λ e. e.now) h.extra) by_reader,
+        ap (λ (k : Objects). k.place) is.1,
+      ),
+      objects_kept o a b h (ap (λ (k : Objects). k.reader) is.1) (ap (λ (k : Objects). k.extra) is.1),
+    )
 
 pub objects_by : (e : Option Encoding) (files : List Name) (o : Objects) (before after : Devices)
     (last : Objects)
     (end : Result ⊤ Failure) →
     AnswersInputs (ActsIn e (TakesLines begins_with_nothing ObjectsGive)) files o before after last
     end →
-    AnswersInputs (ActsIn e (TakesLines begins_with_nothing (ReaderGives o.reader))) files o.place
-    before
-    after last.place end
+    AnswersInputs (ActsIn e (TakesLines begins_with_nothing (ReaderGives o.reader o.extra.now))) files
+    o.place before after last.place end
 objects_by e files o before after last end =
     answers_in (TakesLines begins_with_nothing ObjectsGive)
-    (TakesLines begins_with_nothing (ReaderGives o.reader))
-    (λ k. k.place) (λ k. k.reader ≡ o.reader)
-    (lines_by begins_with_nothing ObjectsGive begins_with_nothing (ReaderGives o.reader)
-    (λ k. k.place) (λ k. k.reader ≡ o.reader)
+    (TakesLines begins_with_nothing (ReaderGives o.reader o.extra.now))
+    (λ k. k.place) (AreObjectsOf o)
+    (lines_by begins_with_nothing ObjectsGive begins_with_nothing (ReaderGives o.reader o.extra.now)
+    (λ k. k.place) (AreObjectsOf o)
     (λ a head b h is. (
       (is.0, ap (λ (k : Objects). k.place) is.1),
-      ap (λ (k : Objects). k.reader) is.1 ∙ h,
+      objects_kept o a b h (ap (λ (k : Objects). k.reader) is.1) (ap (λ (k : Objects). k.extra) is.1),
     ))
-    (λ a line answer b h is. (
-      (
-        subst (λ (r : Reader). IsObjectLine r.engine.rules r.engine.database.now
-            (option_map (λ d. d.now) r.short) r.engine.hint a.place line answer) h is.0,
-        ap (λ (k : Objects). k.place) is.1,
-      ),
-      ap (λ (k : Objects). k.reader) is.1 ∙ h,
-    ))) e files o before after last end refl
+    (objects_given o)) e files o before after last end (record { reader = refl; extra = refl })
 
 -- found numbers
 abbrev pub FinderBegins : Finder → List ℕ → Finder → Type 0

@@ -2,6 +2,7 @@
 use Rattle.std.proofs.Common.{◌≡◌, ◌⊎◌, ℕ, List, [], false, true, Option, Some, Result, ap, inl, inr, refl}
 use Rattle.std.proofs.Common.{subst}
 use Rattle.std.specs.Prelude.{⊤, is_some, option_map}
+use Rattle.phone_commands.specs.Columns.{asked, told_for}
 use Rattle.phone_commands.specs.EncodedJobs.{ActsIn}
 use Rattle.phone_commands.specs.FirstLines.{IsFirstLine}
 use Rattle.phone_commands.specs.Inputs.{Name}
@@ -156,26 +157,28 @@ written_runs c hint files w before after last end is rules under act =
 pub objects_runs : (c : Call) (hint : Option Id) (files : List Name) (o : Objects)
     (shorts : Option (List Metadata)) (before after : Devices) (last : Objects)
     (end : Result ⊤ Failure) → c.command ≡ command.Objects →
-    IsLoaded (shorts_of c) shorts → o.reader.engine.rules ≡ c.rules →
+    IsLoaded (shorts_of c) shorts → asked o.extra.now ≡ told_for c.table.further →
+    o.reader.engine.rules ≡ c.rules →
     o.reader.engine.hint ≡ hint → option_map (λ d. d.now) o.reader.short ≡ shorts →
     o.place ≡ after_one c.skipped →
     AnswersInputs (ActsIn c.encoding (TakesLines begins_with_nothing ObjectsGive)) files o before
     after last end →
     Runs c hint files before after end
-objects_runs c hint files o shorts before after last end is loaded rules under with place act =
+objects_runs c hint files o shorts before after last end is loaded told rules under with place act =
     let db = o.reader.engine.database.now in
+    let extra = o.extra.now in
     let own = objects_by c.encoding files o before after last end act in
     let by_rules = subst (λ x. AnswersInputs (ActsIn c.encoding (TakesLines begins_with_nothing
-    (GivesObjects x db (option_map (λ d. d.now) o.reader.short) o.reader.engine.hint))) files
+    (GivesObjects x db (option_map (λ d. d.now) o.reader.short) extra o.reader.engine.hint))) files
     o.place before after last.place end) rules own in
     let by_hint = subst (λ x. AnswersInputs (ActsIn c.encoding (TakesLines begins_with_nothing
-    (GivesObjects c.rules db (option_map (λ d. d.now) o.reader.short) x))) files o.place before
+    (GivesObjects c.rules db (option_map (λ d. d.now) o.reader.short) extra x))) files o.place before
     after last.place end) under by_rules in
     let by_shorts = subst (λ x. AnswersInputs (ActsIn c.encoding (TakesLines begins_with_nothing
-    (GivesObjects c.rules db x hint))) files o.place before after last.place end) with by_hint in
-    objects db shorts last.place is loaded
+    (GivesObjects c.rules db x extra hint))) files o.place before after last.place end) with by_hint in
+    objects db shorts extra last.place is loaded told
     (subst (λ x. AnswersInputs (ActsIn c.encoding (TakesLines begins_with_nothing
-    (GivesObjects c.rules db shorts hint))) files x before after last.place end) place by_shorts)
+    (GivesObjects c.rules db shorts extra hint))) files x before after last.place end) place by_shorts)
 
 -- found numbers
 pub found_runs : (c : Call) (hint : Option Id) (files : List Name) (f : Finder)

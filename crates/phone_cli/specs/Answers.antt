@@ -109,10 +109,12 @@ pub data Runs (c : Call) (hint : Option Id) (files : List Name) (before after : 
       AnswersInputs (ActsIn c.encoding
       (TakesLines begins_with_nothing (GivesWritten c.rules db hint form))) files tt
       before after tt end → Runs c hint files before after end
-  objects : (db : List Metadata) → (short : Option (List Metadata)) → (last : ℕ) →
+  objects : (db : List Metadata) → (short : Option (List Metadata)) →
+      (extra : columns.Extras) → (last : ℕ) →
       c.command ≡ command.Objects → IsLoaded (shorts_of c) short →
+      columns.asked extra ≡ columns.told_for c.table.further →
       AnswersInputs (ActsIn c.encoding
-      (TakesLines begins_with_nothing (GivesObjects c.rules db short hint))) files
+      (TakesLines begins_with_nothing (GivesObjects c.rules db short extra hint))) files
       (after_one c.skipped) before after last end →
       Runs c hint files before after end
   found : (db : List Metadata) → (m : Option Matching) → (last : Finding) →
@@ -151,6 +153,12 @@ pub data Meets (c : Call) (hint : Option Id) (files : List Name) (before after :
   of_table : (last : Totals) → IsTableRun c hint files before after last end →
       Meets c hint files before after end (strays_of last.counts)
 
+-- a command tells further columns: of a table, or in objects
+abbrev pub tells_further : Command → Bool
+tells_further command.Objects = true
+tells_further command.Table = true
+tells_further other = false
+
 -- what a call does once it reads and writes, and its status: a database or a table of prefixes is
 -- refused; the file of a summary is read or written as well; there is no memory for further
 -- columns; it answers its inputs; or it answers them whole, and a summary can't be written
@@ -159,7 +167,7 @@ pub data Does (c : Call) (hint : Option Id) (files : List Name) (before after : 
   refused : RefusesBySome before after → Does c hint files before after 3
   taken : c.command ≡ command.Table → is_some c.table.summary ≡ true →
       RefusesBySome before after → Does c hint files before after 2
-  no_memory : c.command ≡ command.Table → Refuses (codes "out of memory") before after →
+  no_memory : tells_further c.command ≡ true → Refuses (codes "out of memory") before after →
       Does c hint files before after 1
   ran : (end : Result ⊤ Failure) → (strays : Strays) →
       Runs c hint files before.devices after.devices end →

@@ -1,5 +1,6 @@
 -- What each command answers to its inputs, one after the other.
 use Rattle.std.specs.Prelude.{◌≡◌, ℕ, ⊤, List, [], Option, Result}
+use Rattle.phone_commands.specs.Columns.{Extras}
 use Rattle.phone_commands.specs.FoundLines.{IsFoundLine, in_front, name_told}
 use Rattle.phone_commands.specs.Inputs.{InputsEnd, IsAnswered, IsStandard, Name}
 use Rattle.phone_commands.specs.Jobs.{Acts, TakesLines}
@@ -55,10 +56,12 @@ GivesWithInput rules db hint = each_by_itself (λ _. IsWithInput rules db hint)
 abbrev pub GivesWritten : Rules → List Metadata → Option Id → Form → Gives ⊤
 GivesWritten rules db hint form = each_by_itself (λ _. IsWrittenLine rules db hint form)
 
--- `--json`: the object of each line; what is kept is the number of the next line
-abbrev pub GivesObjects : Rules → List Metadata → Option (List Metadata) → Option Id → Gives ℕ
-GivesObjects rules db short hint place line answer after =
-    IsObjectLine rules db short hint place line answer × (after ≡ after_one place)
+-- `--json`: the object of each line, in which is what columns tell; what is kept is the number of
+-- the next line
+abbrev pub GivesObjects : Rules → List Metadata → Option (List Metadata) → Extras → Option Id →
+    Gives ℕ
+GivesObjects rules db short extra hint place line answer after =
+    IsObjectLine rules db short extra hint place line answer × (after ≡ after_one place)
 
 -- what `--find` keeps: the number of the next line, and how many inputs were begun
 pub record Finding : Type 0 where

@@ -8,6 +8,7 @@ mod failures;
 mod found;
 mod made;
 mod names;
+mod objects;
 mod operands;
 mod outlet;
 mod say;

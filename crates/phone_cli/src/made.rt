@@ -14,13 +14,22 @@ use phone_plans::Plans;
 use phone_table::{Asked, Countries, Extra};
 use phone_words::{Command, Level, Table};
 
-/// What answers each line by an object.
-pub(crate) fn objects_of<'d>(reading: Reading<'_, '_>, reader: Reader<'d>) -> Objects<'d>
+/// What answers each line by an object, and tells these columns of it.
+pub(crate) fn objects_of<'d>(
+    reading: Reading<'_, '_>,
+    reader: Reader<'d>,
+    columns: &'d [Extra<'d>],
+) -> Objects<'d>
     ensures reader { result.reader ≡ reader.entry }
+    ensures extra { result.extra ≡ columns.entry }
     ensures place { result.place ≡ after_one reading.entry.call.now.skipped }
 {
     let place = reading.call.skipped.saturating_add(1);
-    Objects { reader, place }
+    Objects {
+        reader,
+        extra: columns,
+        place,
+    }
 }
 
 /// How a command tells the numbers that it finds.

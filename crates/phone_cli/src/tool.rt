@@ -28,7 +28,8 @@ use crate::about::{write_regions, write_text, write_version};
 use crate::beside::{Place, Target, Unfinished, create_beside, place_of, put_in_place};
 use crate::failures::{say_failure, say_no_columns, say_refusal};
 use crate::found::found;
-use crate::made::{asked, objects_of};
+use crate::made::asked;
+use crate::objects::objects;
 use crate::operands::{hint_and_files, say_missing};
 use crate::outlet::Outlet;
 use crate::say::{say, say_firsts, say_strays, say_taken_summary, say_word_error};
@@ -517,10 +518,7 @@ fn by_reader<R: Files + AllocGlobal, S: Inlet, W: Outlet, E: ByteSink>(
             };
             run_lines(rt, reading, &mut taker, input, output, errors)
         }
-        Command::Objects => {
-            let mut taker = objects_of(reading, reader);
-            run_lines(rt, reading, &mut taker, input, output, errors)
-        }
+        Command::Objects => objects(rt, reading, reader, input, output, errors),
         Command::Find | Command::FoundObjects | Command::FoundRecords => {
             found(rt, reading, reader, input, output, errors)
         }

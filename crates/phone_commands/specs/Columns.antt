@@ -1,4 +1,5 @@
--- The further columns of a table, each by its name, what it tells, and whether by a table.
+-- The further columns of a table, or texts of objects, each by its name, what it tells, and whether
+-- by a table.
 use Rattle.std.specs.Prelude.{ℕ, Bool, false, true, List, [], ◌∷◌, ◌++◌, codes, map, Option, None}
 use Rattle.std.specs.Prelude.{Some, is_some, unwrap_or}
 use Rattle.phone_commands.specs.declared.columns.LoadedColumn.{LoadedColumn}
@@ -96,6 +97,10 @@ abbrev pub table_file : (folder part locale : List ℕ) → List ℕ
 table_file folder part locale =
     folder ++ 47 ∷ (part ++ 47 ∷ (text_file locale ++ codes ".tsv"))
 
--- those that are asked of a table
+-- those that are asked of a table, or of objects
 abbrev pub asked : List Extra → List Spoken
 asked columns = map (λ (c : Extra). (c.heading.now, c.told, is_some c.table, c.locale.now)) columns
+
+-- columns that are told of lines
+abbrev pub Extras : Type 0
+Extras = List Extra

@@ -1,5 +1,6 @@
 pub mod Columns
 pub mod EncodedJobs
+pub mod Files
 pub mod FirstLines
 pub mod FoundLines
 pub mod Inputs

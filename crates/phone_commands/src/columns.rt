@@ -1,11 +1,16 @@
-//! The further columns of a table, and the tables of prefixes by which they tell.
-ghost use Rattle.std.specs.Prelude.{◌≡◌, ◌++◌, ◌∷◌, [], IfOk, Ok, OnOk, is_some, string_bytes};
+//! The further columns of a table, or texts of objects, and the tables of prefixes by which they
+//! tell.
+ghost use Rattle.std.specs.Prelude.{◌≡◌, ◌++◌, ◌∷◌, [], IfErr, IfOk, Ok, OnOk, false, is_some};
+ghost use Rattle.std.specs.Prelude.{string_bytes, true};
 ghost use Rattle.phone_csv.specs.Runs.{OfRead};
 ghost use Rattle.phone_commands.specs.Columns.{asked, column_if, columns_for, loaded, part_if};
 ghost use Rattle.phone_commands.specs.Columns.{locale_for, number_for, parts_for, split_for};
 ghost use Rattle.phone_commands.specs.Columns.{spoken, table_file, tables_for, told_for, wanted};
+ghost use Rattle.phone_commands.specs.Files.{OfTabbed, is_of_line, refused};
 ghost use Rattle.phone_commands.specs.Pairs.{IsWithTab};
 ghost use Rattle.phone_lines.specs.LineReports.{IsReport};
+ghost use Rattle.phone_prefixes.specs.Refusals.{Refuses};
+ghost use Rattle.phone_prefixes.specs.Tables.{IsTable};
 
 use crate::pairs::Tabs;
 use phone_countries::CountriesError;
@@ -166,8 +171,9 @@ pub enum NoColumns<'w> {
 
 /// The bytes of a source, each of its lines with a tab.
 fn bytes_with_tabs<S: ByteSource>(alloc: Global, source: &mut S) -> Result<Vec<u8>, PrefixesError>
-    ensures { IfOk result (λ v. OfRead (S.to_come source.old) (S.to_come source.new)
+    ensures tabs { IfOk result (λ v. OfRead (S.to_come source.old) (S.to_come source.new)
         (λ bytes. IsReport IsWithTab bytes v.items)) }
+    ensures refused { IfErr result (λ e. is_of_line e ≡ false) }
 {
     let mut text = MemorySink::new(alloc);
     let end = take_lines(alloc, &mut Tabs {}, source, &mut text);
@@ -180,7 +186,8 @@ fn copy_after(
     end: Result<(), RunError>,
     bytes: &[u8],
 ) -> Result<Vec<u8>, PrefixesError>
-    ensures { IfOk result (λ v. (end ≡ Ok tt) × (v.items ≡ bytes.now)) }
+    ensures copied { IfOk result (λ v. (end ≡ Ok tt) × (v.items ≡ bytes.now)) }
+    ensures refused { IfErr result (λ e. is_of_line e ≡ false) }
 {
     match end {
         Ok(()) => Ok(bytes.to_vec(alloc)?),
@@ -189,32 +196,42 @@ fn copy_after(
     }
 }
 
-/// The bytes of a file, each of its lines with a tab.
-fn with_tabs<R: Files + AllocGlobal>(rt: &R, name: &str) -> Result<Vec<u8>, PrefixesError> {
-    let Ok(file) = fs::open(rt, name) else {
-        return Err(PrefixesError::Source);
+/// The table of prefixes that a source holds, whose lines are a prefix, a tab and a text, or both
+/// as CSV. Refused by the first line that can't be taken, and by `Source` and `Memory`.
+fn table_read<S: ByteSource>(alloc: Global, source: &mut S) -> Result<Prefixes, PrefixesError>
+    ensures table { IfOk result (λ t. OfTabbed (S.to_come source.old) (S.to_come source.new)
+        (λ text. IsTable text t)) }
+    ensures refused { IfErr result (λ e. is_of_line e ≡ true →
+        OfTabbed (S.to_come source.old) (S.to_come source.new) (λ text. Refuses text e)) }
+{
+    let bytes = match bytes_with_tabs(alloc, source) {
+        Ok(bytes) => bytes,
+        Err(error) => return Err(error),
     };
-    bytes_with_tabs(rt.alloc(), &mut Std::new(file))
+    Prefixes::of(alloc, bytes)
 }
 
 /// The table of prefixes in a file.
 fn table_in<'w, R: Files + AllocGlobal>(rt: &R, name: &'w str) -> Result<Prefixes, NoColumns<'w>> {
-    let bytes = match with_tabs(rt, name) {
-        Ok(bytes) => bytes,
-        Err(error) => return Err(refused(name, error)),
+    let Ok(file) = fs::open(rt, name) else {
+        return Err(NoColumns::Unopened(name));
     };
-    match Prefixes::of(rt.alloc(), bytes) {
+    match table_read(rt.alloc(), &mut Std::new(file)) {
         Ok(table) => Ok(table),
         Err(error) => Err(refused(name, error)),
     }
 }
 
 /// Why a file gives no table, by its refusal.
-fn refused<'w>(name: &'w str, error: PrefixesError) -> NoColumns<'w> {
+fn refused<'w>(name: &'w str, error: PrefixesError) -> NoColumns<'w>
+    ensures { result ≡ refused name.entry error }
+{
     match error {
         PrefixesError::Source => NoColumns::Unopened(name),
         PrefixesError::Memory => NoColumns::Memory,
-        error => NoColumns::Refused(name, error),
+        PrefixesError::Line(line, what) => {
+            NoColumns::Refused(name, PrefixesError::Line(line, what))
+        }
     }
 }
 
@@ -269,11 +286,7 @@ fn table_there<'w, R: Files + AllocGlobal>(
     let Ok(file) = fs::open(rt, name) else {
         return Ok(None);
     };
-    let bytes = match bytes_with_tabs(rt.alloc(), &mut Std::new(file)) {
-        Ok(bytes) => bytes,
-        Err(error) => return Err(refused(folder, error)),
-    };
-    match Prefixes::of(rt.alloc(), bytes) {
+    match table_read(rt.alloc(), &mut Std::new(file)) {
         Ok(table) => Ok(Some(table)),
         Err(error) => Err(refused(folder, error)),
     }

@@ -13,6 +13,7 @@ use phone_book::{Book, BookError, Place, key_text};
 use phone_engine::Rules;
 use phone_lines::LineTaker;
 use phone_plans::Plans;
+use phone_table::Extra;
 use phone_table::objects::object_line;
 use phonenumber::country::Id;
 use std::alloc::{AllocError, Global};
@@ -22,6 +23,8 @@ use std::alloc::{AllocError, Global};
 pub struct Objects<'d> {
     /// What reads the lines.
     pub reader: Reader<'d>,
+    /// What is told of each beside, by its heading.
+    pub extra: &'d [Extra<'d>],
     /// The number of the next line.
     pub place: u64,
 }
@@ -35,7 +38,7 @@ impl<'d> LineTaker for Objects<'d> {
 
     // The object of the line, whose number is that of the last one and one more.
     ghost gives = { λ o line answer after. IsObjectLine o.reader.engine.rules
-        o.reader.engine.database.now (option_map (λ d. d.now) o.reader.short)
+        o.reader.engine.database.now (option_map (λ d. d.now) o.reader.short) o.extra.now
         o.reader.engine.hint o.place line answer ×
         (after ≡ record o { place = after_one o.place }) };
 
@@ -50,7 +53,7 @@ impl<'d> LineTaker for Objects<'d> {
         answers: &mut Vec<u8>,
     ) -> Result<(), AllocError> {
         let Reader { engine, short } = self.reader;
-        let object = object_line(engine, short, self.place, line)?;
+        let object = object_line(engine, short, self.extra, self.place, line)?;
         self.place = self.place.saturating_add(1);
         push_line(answers, object.as_str())
     }

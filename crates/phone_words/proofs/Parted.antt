@@ -5,7 +5,7 @@ use Rattle.std.specs.List.{find}
 use Rattle.std.specs.Option.{option_or}
 use Rattle.std.specs.Prelude.{option_map}
 use Rattle.phone_words.specs.Help.{row_text, rows_text}
-use Rattle.phone_words.specs.Rows.{Entry, joined_in, value_in}
+use Rattle.phone_words.specs.Rows.{Entry, joined_in, value_among}
 
 -- the first of both that is so is the first of one, or else of the other
 pub find_of_both : (p : Entry → Bool) (xs ys : List Entry) →
@@ -24,13 +24,13 @@ or_of_three None b c = refl
 or_of_three (Some x) b c = refl
 
 -- so it is where an option stands in a word with its value
-pub joined_of_both : (word : List ℕ) (xs ys : List Entry) →
-    joined_in (xs ++ ys) word ≡ option_or (joined_in xs word) (joined_in ys word)
-joined_of_both word [] ys = refl
-joined_of_both word (x ∷ xs) ys =
-    let own : Option (Entry × List ℕ) = option_map (λ v. (x, v)) (value_in x word) in
-    ap (option_or own) (joined_of_both word xs ys)
-    ∙ or_of_three own (joined_in xs word) (joined_in ys word)
+pub joined_of_both : (words : List (List ℕ)) (word : List ℕ) (xs ys : List Entry) →
+    joined_in words (xs ++ ys) word ≡ option_or (joined_in words xs word) (joined_in words ys word)
+joined_of_both words word [] ys = refl
+joined_of_both words word (x ∷ xs) ys =
+    let own : Option (Entry × List ℕ) = option_map (λ v. (x, v)) (value_among words x word) in
+    ap (option_or own) (joined_of_both words word xs ys)
+    ∙ or_of_three own (joined_in words xs word) (joined_in words ys word)
 
 -- what is told of both
 pub told_of_both : (xs ys : List Entry) → rows_text (xs ++ ys) ≡ rows_text xs ++ rows_text ys

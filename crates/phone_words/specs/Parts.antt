@@ -93,7 +93,7 @@ either f None y = y
 -- what a word is by itself, among all words
 abbrev pub kind : List (List ℕ) → List ℕ → Kind
 kind words word = either kind_named (named words word)
-    (either (kind_joined word) (joined word) (kind_other word))
+    (either (kind_joined word) (joined words word) (kind_other word))
 
 -- what came before a word: nothing that matters; an option that wants it as its value, with the
 -- word that named it; or the mark

@@ -131,14 +131,20 @@ after_short r word = if is_empty r.short then None else after r.short word
 abbrev pub value_in : Entry → List ℕ → Option (List ℕ)
 value_in r word = if takes r then option_or (after_name r word) (after_short r word) else None
 
--- the first of some options whose name stands in a word with its value, and that value
-abbrev pub joined_in : List Entry → List ℕ → Option (Entry × List ℕ)
-joined_in [] word = None
-joined_in (r ∷ rs) word = option_or (option_map (λ v. (r, v)) (value_in r word)) (joined_in rs word)
+-- the same of an option that counts among words
+abbrev pub value_among : List (List ℕ) → Entry → List ℕ → Option (List ℕ)
+value_among words r word = if counts words r then value_in r word else None
 
--- the option and its value that are one word
-abbrev pub joined : List ℕ → Option (Entry × List ℕ)
-joined word = joined_in rows word
+-- the first of some options that counts among words and whose name stands in a word with its value,
+-- and that value
+abbrev pub joined_in : List (List ℕ) → List Entry → List ℕ → Option (Entry × List ℕ)
+joined_in words [] word = None
+joined_in words (r ∷ rs) word =
+    option_or (option_map (λ v. (r, v)) (value_among words r word)) (joined_in words rs word)
+
+-- the option and its value that are one word, among words
+abbrev pub joined : List (List ℕ) → List ℕ → Option (Entry × List ℕ)
+joined words word = joined_in words rows word
 
 -- a row's option, and a text that is lent
 abbrev pub entry_and_text : Row × Lent → Entry × List ℕ

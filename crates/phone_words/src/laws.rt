@@ -53,6 +53,11 @@ pub fn examples()
     ensures unknown { why_by (codes "--nz" ∷ []) ≡ Some why.Unknown }
     ensures no_value { why_by (codes "-o" ∷ codes "--" ∷ []) ≡ Some why.NoValue }
     ensures apart { why_by (codes "--json" ∷ codes "--csv" ∷ codes "x" ∷ []) ≡ Some why.Together }
+    ensures area { command_by (codes "--json" ∷ codes "--area" ∷ codes "--areas=a" ∷ []) ≡
+        Some command.Objects }
+    ensures areas { why_by (codes "--json" ∷ codes "--area" ∷ []) ≡ Some why.Without }
+    ensures language { why_by (codes "--language=de" ∷ codes "--places=p" ∷ []) ≡
+        Some why.Without }
     ensures strict { level_by (codes "--find" ∷ codes "--leniency=strict-grouping" ∷ []) ≡
         Some level.StrictGrouping }
     ensures findless { why_by (codes "--leniency" ∷ codes "valid" ∷ []) ≡ Some why.Without }

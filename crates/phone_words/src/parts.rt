@@ -158,7 +158,7 @@ fn kind_of<'w>(words: &[&str], word: &'w str) -> Kind<'w>
     if let Some(row) = named(words, word) {
         return kind_named(row);
     }
-    match joined(word) {
+    match joined(words, word) {
         Some((row, value)) => kind_joined(word, row, value),
         None => kind_other(word),
     }

@@ -4,7 +4,7 @@ ghost use Rattle.std.specs.List.{find};
 ghost use Rattle.phone_words.specs.Rows.{after, after_name, after_short, counts, entry};
 ghost use Rattle.phone_words.specs.Rows.{entry_and_text, entry_of, first_rows, is_among, is_mark};
 ghost use Rattle.phone_words.specs.Rows.{is_name, joined, joined_in, more_rows, named, text_in};
-ghost use Rattle.phone_words.specs.Rows.{texts_of, value_in};
+ghost use Rattle.phone_words.specs.Rows.{texts_of, value_among, value_in};
 
 /// An option of the program.
 #[derive(Clone, Copy)]
@@ -45,11 +45,22 @@ macro_rules! rows {
 
 /// The first options, each by its name, its name of one letter, what its value is, the word beside
 /// which it counts, what it needs, what it doesn't go with, and its help.
-const ROWS: [Cells; 22] = rows! {
+const ROWS: [Cells; 25] = rows! {
     "--json" "" "" "" [] ["--unique" "--typed" "--short"] "
       a JSON object a line: the line's number and text, the fields that --csv gives, and
       calling_code, national_number, possibility and area_code; with --find an object for each
       number: line, column, text, those fields but the refusal, and extension"
+    "--time-zone" "" "" "--json" ["--time-zones"] ["--find"] "
+      each object has one text more, time_zone: the number's time zones"
+    "--carrier" "" "" "--json" ["--carriers"] ["--find"] "
+      so too carrier: the company that has the number today; empty in regions where numbers can be
+      taken to another company"
+    "--first-carrier" "" "" "--json" ["--carriers"] ["--find"] "
+      so too first_carrier: the company that the number was first given to"
+    "--area" "" "" "--json" ["--areas"] ["--find"] "
+      so too area: the number's area"
+    "--language" "" "LANG" "--json" ["--places"] ["--find"] "
+      the language of that area and carrier, as with --csv"
     "--find" "" "" "" [] ["--unique" "--typed" "--short"] "
       finds the valid numbers in running text, and writes for each its line, its column, its E.164
       text and the piece of the text, parted by tabs; the file's name before them where several are
@@ -116,14 +127,14 @@ const ROWS: [Cells; 22] = rows! {
     "--carrier" "" "" "" ["--csv" "--carriers"] [] "
       one of the company that has the number today; empty in regions where numbers can be taken to
       another company"
+};
+
+/// The other options: a constant of all would be too great for the prover.
+const MORE: [Cells; 27] = rows! {
     "--first-carrier" "" "" "" ["--csv" "--carriers"] [] "
       one of the company that the number was first given to, which is what most people mean"
     "--area" "" "" "" ["--csv" "--areas"] [] "
       one of its area"
-};
-
-/// The other options: a constant of all would be too great for the prover.
-const MORE: [Cells; 25] = rows! {
     "--language" "" "LANG" "" ["--csv" "--places"] [] "
       the language of areas and carriers, as de, pt-BR or zh_TW; where it has no text it is told in
       English, unless it is Chinese, Japanese or Korean"
@@ -323,32 +334,44 @@ fn value_in<'w>(row: Row, word: &'w str) -> Option<&'w str>
     }
 }
 
-/// The first row of these cells whose name stands in a word with its value, and that value.
-fn joined_in<'w>(cells: &[Cells], word: &'w str) -> Option<(Row, &'w str)>
-    ensures { option_map entry_and_text result ≡ joined_in (map entry_of cells.now) word.now }
+/// The same of a row that counts among these words.
+fn value_among<'w>(row: Row, words: &[&str], word: &'w str) -> Option<&'w str>
+    ensures { text_in result ≡ value_among (texts_of words.now) (entry row) word.now }
+{
+    if counts(row, words) {
+        return value_in(row, word);
+    }
+    None
+}
+
+/// The first row of these cells that counts among these words and whose name stands in a word with
+/// its value, and that value.
+fn joined_in<'w>(cells: &[Cells], words: &[&str], word: &'w str) -> Option<(Row, &'w str)>
+    ensures { option_map entry_and_text result ≡
+        joined_in (texts_of words.now) (map entry_of cells.now) word.now }
 {
     for cells in cells {
         let row = row_of(*cells);
-        if let Some(value) = value_in(row, word) {
+        if let Some(value) = value_among(row, words, word) {
             return Some((row, value));
         }
     }
     None
 }
 
-/// The option and its value that are one word: `--csv=phone`, `-d;`.
-pub(crate) fn joined(word: &str) -> Option<(Row, &str)>
-    ensures { option_map entry_and_text result ≡ joined word.now }
+/// The option and its value that are one word, among these words: `--csv=phone`, `-d;`.
+pub(crate) fn joined<'w>(words: &[&str], word: &'w str) -> Option<(Row, &'w str)>
+    ensures { option_map entry_and_text result ≡ joined (texts_of words.now) word.now }
 {
-    match joined_in(first_rows(), word) {
+    match joined_in(first_rows(), words, word) {
         Some(found) => Some(found),
-        None => joined_in(more_rows(), word),
+        None => joined_in(more_rows(), words, word),
     }
 }
 
 /// What the value of an option of these cells is, in one word; none where there is no such option,
 /// or it takes none.
-fn value_among(cells: &[Cells], name: &str) -> Option<&'static str> {
+fn word_among(cells: &[Cells], name: &str) -> Option<&'static str> {
     for cells in cells {
         let row = row_of(*cells);
         if row.name == name && !row.value.is_empty() {
@@ -361,8 +384,8 @@ fn value_among(cells: &[Cells], name: &str) -> Option<&'static str> {
 /// What the value of an option is, in one word; empty where there is no such option, or it takes
 /// none.
 pub fn value_word(name: &str) -> &'static str {
-    match value_among(first_rows(), name) {
+    match word_among(first_rows(), name) {
         Some(value) => value,
-        None => value_among(more_rows(), name).unwrap_or(""),
+        None => word_among(more_rows(), name).unwrap_or(""),
     }
 }

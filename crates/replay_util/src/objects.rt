@@ -15,6 +15,10 @@ pub fn answer(alloc: Global, row: &Row, db: &Database) -> Result<Option<String>>
     };
     let engine = hinted(rules, db, row.argument(1))?;
     let (place, line) = (row.argument(2).parse::<u64>()?, row.argument_bytes(3));
-    let object = around(alloc, begin(alloc), object_line(engine, None, place, line))?;
+    let object = around(
+        alloc,
+        begin(alloc),
+        object_line(engine, None, &[], place, line),
+    )?;
     Ok(Some(object))
 }

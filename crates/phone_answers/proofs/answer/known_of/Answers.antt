@@ -17,7 +17,7 @@ returns-in-Ok-clause-spelled c =
     let t = c.in_ok-texts.ensures in
     let q = c.in-Ok.ensures in
     let k : Known = record { texts = c.in_ok-texts.texts; facts = c.in-Ok.facts } in
-    let h = three_texts (first_of (territories p.code.value db)) p _ _ _ t.e164 t.international t.national in (
+    let h = three_texts c.args.engine.rules (first_of (territories p.code.value db)) p _ _ _ t.e164 t.international t.national in (
       h.m,
       ap (λ (k : Code). first_of (territories k.value db)) (sym (printed_code c.args.engine.rules n)) ∙ h.first,
       answer_same (of_known k) (of_number c.args.engine.rules db h.m n)
@@ -29,5 +29,5 @@ returns-in-Ok-clause-known c =
     let p = printed_as c.args.engine.rules c.args.number.now in
     let t = c.in_ok-texts.ensures in
     let q = c.in-Ok.ensures in
-    let h = three_texts (first_of (territories p.code.value c.args.engine.database.now)) p _ _ _ t.e164 t.international t.national in
+    let h = three_texts c.args.engine.rules (first_of (territories p.code.value c.args.engine.database.now)) p _ _ _ t.e164 t.international t.national in
     record { e164 = h.e164 ∙ printed_digits c.args.engine.rules c.args.number.now; kind = q.kind; region = q.region; is_valid = q.is_valid }

@@ -6,5 +6,5 @@ pub returns : goal.returns
 returns c =
     let d = view c.in_ok-object.object in
     let is = c.in_ok-object.ensures in
-    ok_both c.to_string.result _ _ _ (λ s text back. (d, is, text (no_float _ _ _ _ _ _ d is), back (shallow _ _ _ _ _ _ d is)))
+    ok_both c.to_string.result _ _ _ (λ s text back. (d, is, text (no_float _ _ _ _ _ _ _ d is), back (shallow _ _ _ _ _ _ _ d is)))
     c.to_string.ensures.text c.to_string.ensures.reads_back

@@ -1,19 +1,16 @@
-use Rattle.std.proofs.Common.{Option, ap, codes, subst}
-use Rattle.serde_json.specs.Data.{Members, no_members, number, put, unsigned}
+use Rattle.std.proofs.Common.{◌≡◌, ◌∙◌, ap}
+use Rattle.std.proofs.lemmas.Result.{IfOk-at_ok}
+use Rattle.serde_json.specs.Data.{object}
 use Rattle.serde_json.specs.View.{members_view}
-use Rattle.phone_csv.specs.Formats.{Record}
-use Rattle.phone_values.specs.declared.reading.Reading.{Reading}
-use Rattle.phone_answers.specs.Fields.{fields}
-use Rattle.phone_answers.specs.Objects.{AreMade, with_fields, with_parts}
-use Rattle.phone_answers.specs.Spelled.{spelled}
+use Rattle.serde_json.proofs.Views.{view-Object}
+use Rattle.phone_answers.specs.Objects.{members_of, with_told}
+use Rattle.phone_answers.specs.Spelled.{number_in, spelled}
 use Rattle.phone_answers.proofs.objects.object_of.Goals as goal
 
 pub returns : goal.returns
 returns c t h =
-    let ms : Members = put (codes "text") t (put (codes "line") (number (unsigned c.args.place)) no_members) in
-    let made = c.with_fields-members.ensures ms
-    (c.with_value-members.ensures _ t (c.with_number-members.ensures no_members (ap members_view c.new.ensures.empty)) h) in
-    let told = subst (λ (a : Record). AreMade c.with_fields-members.result (with_fields fields a ms)) c.cells_of.ensures made in
-    c.object_with.ensures _
-    (subst (λ (n : Option Reading). AreMade c.with_parts.result (with_parts c.args.engine.rules c.args.engine.database.now n (with_fields fields (spelled c.args.answer.now) ms)))
-    c.number_of.ensures (c.with_parts.ensures _ told))
+    let answer = c.args.subject.answer.now in
+    let ms = members_of c.args.engine.rules c.args.engine.database.now c.args.place t (number_in answer) (spelled answer) in
+    let made = IfOk-at_ok (λ m. members_view m.entries ≡ ms) c.in_ok-made.was (c.members_of.ensures t h) in
+    let told = c.in_ok-members.ensures in
+    (told.0, told.1, view-Object c.in_ok-members.members ∙ ap object (told.2 ∙ ap (with_told c.args.extra.now told.0) made))

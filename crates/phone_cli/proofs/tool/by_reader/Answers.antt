@@ -1,9 +1,7 @@
-use Rattle.std.proofs.Common.{ap, ◌∙◌}
-use Rattle.std.specs.Prelude.{option_map}
-use Rattle.phone_commands.specs.declared.reader.Reader.{Reader}
+use Rattle.std.proofs.Common.{ap}
 use Rattle.phone_cli.specs.Answers.{is_table}
 use Rattle.phone_cli.proofs.RunLemmas.{finds_by, is_report, lines_ran}
-use Rattle.phone_cli.proofs.RunLemmas.{objects_runs, report_runs, typed_runs, with_input_runs}
+use Rattle.phone_cli.proofs.RunLemmas.{report_runs, typed_runs, with_input_runs}
 use Rattle.phone_cli.proofs.RunLemmas.{written_runs}
 use Rattle.phone_cli.proofs.tool.by_reader.Goals as goal
 
@@ -24,19 +22,6 @@ returns-in-Written g c = λ reads loaded.
     (ap is_table c.in-Written.is) run.4 (written_runs _ _ _
     (record { engine = c.reader_of-reader.result.engine; form = c.in-Written.form }) _ _ run.1 _
     c.in-Written.is made.rules made.hint run.3))
-
-pub returns-in-Objects : goal.returns-in-Objects
-returns-in-Objects g c = λ reads loaded.
-    let made = c.objects_of-taker.ensures.reader in
-    let run = c.run_lines-in-Objects.ensures in
-    rw run.5 (lines_ran _ _ _ _ _ run.2 run.0
-    (ap is_table c.in-Objects.is) run.4 (objects_runs _ _ _
-    c.objects_of-taker.result _ _ _ run.1 _ c.in-Objects.is loaded
-    (ap (λ (r : Reader). r.engine.rules) made ∙ c.reader_of-reader.ensures.rules)
-    (ap (λ (r : Reader). r.engine.hint) made ∙ c.reader_of-reader.ensures.hint)
-    (ap (λ (r : Reader). option_map (λ d. d.now) r.short) made ∙
-    ap (option_map (λ d. d.now)) c.reader_of-reader.ensures.short)
-    c.objects_of-taker.ensures.place run.3))
 
 pub returns-in-Find : goal.returns-in-Find
 returns-in-Find g c = λ reads loaded.

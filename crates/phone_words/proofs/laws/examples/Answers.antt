@@ -69,3 +69,15 @@ returns-clause-strict c = refl
 pub returns-clause-findless : goal.returns-clause-findless
 unfolding first_rows more_rows
 returns-clause-findless c = refl
+
+pub returns-clause-area : goal.returns-clause-area
+unfolding first_rows more_rows
+returns-clause-area c = refl
+
+pub returns-clause-areas : goal.returns-clause-areas
+unfolding first_rows more_rows
+returns-clause-areas c = refl
+
+pub returns-clause-language : goal.returns-clause-language
+unfolding first_rows more_rows
+returns-clause-language c = refl
