@@ -80,6 +80,8 @@ static void of_text(phone_handle *world) {
     text("phone_report, no room", phone_report(world, TEXT(""), TEXT("call me"), out, 0, &wrote));
     text("phone_typing_shown", phone_typing_shown(world, TEXT("US"), TEXT("6502530"), out, sizeof out, &wrote));
     VALUE("phone_typing_caret", phone_typing_caret(world, TEXT("US"), TEXT("6502530"), 4, &place), place);
+    text("phone_keyed_shown", phone_keyed_shown(world, TEXT("US"), TEXT("16502"), out, sizeof out, &wrote));
+    VALUE("phone_keyed_caret", phone_keyed_caret(world, TEXT("US"), TEXT("16502"), 5, &place), place);
     VALUE("phone_is_viable", phone_is_viable(TEXT("call me"), &flag), flag);
     text("phone_status_words", phone_status_words(PHONE_TOO_LONG, out, sizeof out, &wrote));
 }

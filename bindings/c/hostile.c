@@ -326,6 +326,42 @@ static int typing(void) {
     CHECK(712, blocks == 0);
     return 0;
 }
+static phone_status keyed(phone_handle *h, const char *hint, const void *typed, size_t len, size_t room) {
+    fill();
+    return phone_keyed_shown(h, phone_text(hint, strlen(hint)), strlen(hint), phone_text(typed, len), len, out, room, &wrote);
+}
+static phone_status keyed_caret(phone_handle *h, const char *typed, size_t n, size_t *told) {
+    return phone_keyed_caret(h, phone_text("", 0), 0, phone_text(typed, strlen(typed)), strlen(typed), n, told);
+}
+static int typing_by_library(void) {
+    phone_handle h = PHONE_CLOSED;
+    size_t place = 9;
+    static char many[2000];
+    CHECK(720, keyed(&h, "", "1", 1, 9) == PHONE_IS_CLOSED && wrote == 0 && is_untouched(0));
+    CHECK(721, keyed_caret(&h, "1", 1, &place) == PHONE_IS_CLOSED && place == 9);
+    CHECK(722, phone_open(B(SMALL), PHONE_CRATE, &h) == PHONE_OK);
+    CHECK(723, keyed(&h, "xx", "1", 1, 9) == PHONE_NO_REGION && keyed(&h, "", "\xff", 1, 9) == PHONE_NOT_UTF8 && wrote == 0);
+    CHECK(724, keyed(&h, "", NULL, 0, 0) == PHONE_OK && wrote == 0);
+    CHECK(725, keyed(&h, "", "+9991", 5, 6) == PHONE_OK && wrote == 6 && !memcmp(out, "+999 1", 6) && is_untouched(6));
+    CHECK(726, keyed(&h, "", "+9991", 5, 5) == PHONE_TOO_SMALL && wrote == 6 && is_untouched(0));
+    CHECK(727, keyed(&h, "", "a\0+9", 4, 4) == PHONE_OK && wrote == 4 && !memcmp(out, "a\0+9", 4));
+    CHECK(728, keyed_caret(&h, "+9991", SIZE_MAX, &place) == PHONE_OK && place == 6);
+    CHECK(729, keyed_caret(&h, "+9991", 0, &place) == PHONE_OK && place == 0);
+    CHECK(730, keyed_caret(&h, "+9991", 4, &place) == PHONE_OK && place == 4);
+    CHECK(731, keyed_caret(&h, "+9991x", 5, &place) == PHONE_OK && place == 5);
+    memset(many, '7', sizeof many);
+    CHECK(732, keyed(&h, "", many, sizeof many, sizeof out) == PHONE_OK && wrote >= sizeof many && is_untouched(wrote));
+    for (long k = 0;; k++) {
+        requests = 0, refuse_at = k, place = 9;
+        phone_status status = keyed_caret(&h, "+9991", 5, &place);
+        refuse_at = -1;
+        CHECK(733, status == PHONE_OK ? place == 6 : status == PHONE_MEMORY && place == 9);
+        if (requests <= k) break;
+    }
+    phone_close(&h);
+    CHECK(734, blocks == 0);
+    return 0;
+}
 static int shorts(void) {
     phone_handle h = PHONE_CLOSED;
     phone_short_facts facts = {9, 9, 9, 9, 9, 9};
@@ -717,7 +753,7 @@ static int atlases(void) {
 int main(int argc, char **argv) {
     long rounds = argc > 2 ? atol(argv[2]) : 100, most = 0;
     int wrong;
-    if ((wrong = small()) || (wrong = by_rules()) || (wrong = typing()) || (wrong = shorts()) || (wrong = prefixes())
+    if ((wrong = small()) || (wrong = by_rules()) || (wrong = typing()) || (wrong = typing_by_library()) || (wrong = shorts()) || (wrong = prefixes())
         || (wrong = possible()) || (wrong = listed()) || (wrong = questions()) || (wrong = dialling()) || (wrong = lettered()) || (wrong = words()) || (wrong = layouts())
         || (wrong = world_in_library()) || (wrong = atlases())
         || (wrong = shared())) return wrong;

@@ -483,6 +483,21 @@ phone_status phone_typing_shown(phone_handle *handle, const uint8_t *hint, size_
 phone_status phone_typing_caret(phone_handle *handle, const uint8_t *hint, size_t hint_len,
                                 const uint8_t *keys, size_t keys_len, size_t n, size_t *told);
 
+/* Writes what libphonenumber's formatter shows of a number while it is typed: marks that come and go as
+ * keys are typed, where phone_typing_shown shows those of the whole number's format. `typed` is all that was
+ * typed so far, in UTF-8: a digit of any script is the key of its value, and `+` before all else is one;
+ * after any other character all is shown as it was typed. Its time grows with the square of the text's
+ * length. Its statuses are those of phone_typing_shown. */
+phone_status phone_keyed_shown(phone_handle *handle, const uint8_t *hint, size_t hint_len,
+                               const uint8_t *typed, size_t typed_len, uint8_t *out, size_t out_len,
+                               size_t *wrote);
+
+/* Tells after how many characters of what phone_keyed_shown shows of this text its n-th character stands,
+ * counted from 1: where the caret stands after it. 0 for none. A digit of another script that is shown as it
+ * was typed is one character, and several bytes. Its statuses are those of phone_typing_caret. */
+phone_status phone_keyed_caret(phone_handle *handle, const uint8_t *hint, size_t hint_len,
+                               const uint8_t *typed, size_t typed_len, size_t n, size_t *told);
+
 /* Tells what is known of a text as a short number of a region, under a handle that was opened on a
  * database of short numbers (data/short.json is one); `region` is the region's id, as "NZ".
  * PHONE_IS_CLOSED exactly where nothing is open, else PHONE_NO_REGION exactly where the region is no

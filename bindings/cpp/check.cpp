@@ -91,6 +91,7 @@ int main(int argc, char **argv) {
     std::vector<phone_place> found = phones.find(text, "NZ").value();
     must(found.size() == 2 && text.substr(found[0].start, found[0].end - found[0].start) == "03-331 6005", "numbers in a text");
     must(phones.typing_shown("033316", "NZ").value() == "03 331 6", "while it is typed: " + phones.typing_shown("033316", "NZ").value());
+    must(phones.keyed_shown("16502", "US").value() == "1 (650) 2" && phones.keyed_caret("16502", 5, "US").value() == 9, "by the formatter");
     found = phones.matches(text, "NZ", leniency::exact_grouping).value();
     must(found.size() == 2 && found[1].end == text.size(), "as libphonenumber finds them");
     must(phones.matches("+64 3331 6005", "", leniency::exact_grouping).value().empty(), "other groups of digits");

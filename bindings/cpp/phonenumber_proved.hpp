@@ -352,6 +352,22 @@ public:
         });
     }
 
+    /* What libphonenumber's formatter shows while it is typed, of all that was typed so far. */
+    result<std::string> keyed_shown(std::string_view typed, std::string_view region = {}) {
+        return inside::text_of([&](std::uint8_t *out, std::size_t room, std::size_t *wrote) {
+            return phone_keyed_shown(&handle_, inside::bytes(region), region.size(), inside::bytes(typed),
+                                     typed.size(), out, room, wrote);
+        });
+    }
+    /* After how many characters of it the n-th character stands that was typed; 0 for none. */
+    result<std::size_t> keyed_caret(std::string_view typed, std::size_t n, std::string_view region = {}) {
+        std::size_t told = 0;
+        phone_status status = phone_keyed_caret(&handle_, inside::bytes(region), region.size(), inside::bytes(typed),
+                                                typed.size(), n, &told);
+        if (status != PHONE_OK) return result<std::size_t>::refused(status);
+        return told;
+    }
+
     /* The ids of the metadata's regions, by the alphabet. */
     result<std::vector<std::string>> regions() {
         result<std::string> all = inside::text_of([&](std::uint8_t *out, std::size_t room, std::size_t *wrote) {

@@ -184,6 +184,8 @@ def _declare(lib: Library) -> None:
         ],
         "typing_shown": [u32, handle, text, size, text, size, text, size, pointer(size)],
         "typing_caret": [u32, handle, text, size, text, size, size, pointer(size)],
+        "keyed_shown": [u32, handle, text, size, text, size, text, size, pointer(size)],
+        "keyed_caret": [u32, handle, text, size, text, size, size, pointer(size)],
         "short": [u32, handle, text, size, text, size, short_facts],
         "about_region": [u32, handle, text, size, region_facts],
         "national_prefix": [u32, handle, text, size, u8, text, size, pointer(size)],

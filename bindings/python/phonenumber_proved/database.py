@@ -206,6 +206,41 @@ class Database(Asked, Records):
         )
         return int(told.value) if status == OK else refuse(status, hint)
 
+    def library_typed(self, typed: Text, hint: Optional[str] = None) -> str:
+        """What libphonenumber's formatter shows of a number while it is typed, of all that was typed.
+
+        Its marks come and go as digits are typed. After a character that is neither a digit nor a
+        plus sign before all else, the text is shown as it was typed. Time grows with the square of
+        the text's length.
+
+        >>> from phonenumber_proved import Database
+        >>> with Database.load() as world:
+        ...     world.library_typed("16502", "US"), world.library_caret("16502", 5, "US")
+        ('1 (650) 2', 9)
+        """
+        data, region = bytes_of(typed), hint_of(hint)
+        return written(
+            lambda *out: self._call(
+                lib.phone_keyed_shown, region, len(region), data, len(data), *out
+            ),
+            region=hint,
+        ).decode()
+
+    def library_caret(self, typed: Text, n: int, hint: Optional[str] = None) -> int:
+        """After how many characters of what `library_typed` shows the n-th stands that was typed.
+
+        They are counted from 1; 0 for none.
+        """
+        data, region, told = bytes_of(typed), hint_of(hint), ctypes.c_size_t()
+        if n < 0:
+            raise ValueError("characters are counted from 1")
+        at = ctypes.byref(told)
+        places = min(n, len(data) + 1)  # no text has more characters than bytes
+        status = self._call(
+            lib.phone_keyed_caret, region, len(region), data, len(data), places, at
+        )
+        return int(told.value) if status == OK else refuse(status, hint)
+
     def typing(self, hint: Optional[str] = None) -> "Typing":
         """A field in which nothing is typed yet."""
         return Typing(self, hint)

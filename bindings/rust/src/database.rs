@@ -194,6 +194,40 @@ impl Database {
         Ok(told)
     }
 
+    /// What libphonenumber's formatter shows of a number while it is typed, once the characters of this text
+    /// are: its marks come and go as digits are typed, and after a character that is neither a digit nor a
+    /// plus sign before all else the text is shown as it was typed. Time grows with the square of its length.
+    ///
+    /// ```
+    /// use phonenumber_proved::{Database, Region};
+    /// let world = Database::world()?;
+    /// assert_eq!(world.library_typed(Region::US, "16502")?, "1 (650) 2");
+    /// assert_eq!(world.library_caret(Region::US, "16502", 5)?, 9);
+    /// # Ok::<(), phonenumber_proved::Error>(())
+    /// ```
+    pub fn library_typed(&self, hint: impl Into<Option<Region>>, typed: impl AsRef<str>) -> Result<String, Error> {
+        let (hint, typed) = (hint_of(hint), typed.as_ref());
+        text_of(64, |out, len, wrote| {
+            // SAFETY: as in `By::parse`.
+            self.by(Rules::Library).records().with(|handle| unsafe {
+                ffi::phone_keyed_shown(handle, hint.as_ptr(), hint.len(), typed.as_ptr(), typed.len(), out, len, wrote)
+            })
+        })
+    }
+
+    /// After how many characters of what `library_typed` shows of this text its n-th character stands,
+    /// counted from 1; 0 for none.
+    pub fn library_caret(
+        &self, hint: impl Into<Option<Region>>, typed: impl AsRef<str>, n: usize,
+    ) -> Result<usize, Error> {
+        let (hint, typed, mut told) = (hint_of(hint), typed.as_ref(), 0);
+        // SAFETY: as in `By::parse`.
+        check(self.by(Rules::Library).records().with(|handle| unsafe {
+            ffi::phone_keyed_caret(handle, hint.as_ptr(), hint.len(), typed.as_ptr(), typed.len(), n, &mut told)
+        }))?;
+        Ok(told)
+    }
+
     /// A field in which nothing is typed yet.
     pub fn typing(&self, hint: impl Into<Option<Region>>) -> Result<Typing<'_>, Error> {
         Typing::new(self, hint)

@@ -23,6 +23,7 @@ mod columns;
 mod dialling;
 mod examples;
 mod find;
+mod keyed;
 mod letters;
 mod listed;
 mod matches;

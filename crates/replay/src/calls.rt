@@ -81,6 +81,9 @@ fn on_database(
     if let Some(found) = replay_places::answer(alloc, row, db)? {
         return Ok(Some(found));
     }
+    if let Some(found) = replay_typed::answer(alloc, row, db)? {
+        return Ok(Some(found));
+    }
     replay_util::answer(alloc, row, db)
 }
 

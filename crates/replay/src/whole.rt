@@ -7,7 +7,7 @@ use std::alloc::AllocGlobal;
 use std::fs::{self, Files};
 
 /// The tables, by their files.
-const TABLES: [&str; 30] = [
+const TABLES: [&str; 31] = [
     "calls.tsv",
     "report.tsv",
     "json.tsv",
@@ -32,6 +32,7 @@ const TABLES: [&str; 30] = [
     "rules.tsv",
     "short.tsv",
     "typed.tsv",
+    "keyed.tsv",
     "prefixes.tsv",
     "report-lines.tsv",
     "doubts.tsv",

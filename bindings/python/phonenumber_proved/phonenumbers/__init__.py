@@ -20,9 +20,8 @@ all threads have, and the child of a fork after it.
 
 An unknown region is none, as there. A national number of 2^56 or more, as some of 17 digits are,
 is too long. Where versions of libphonenumber differ, the rules are a newer one's: a text with
-`;phone-context=1` is no number. `AsYouTypeFormatter` shows what `Database.typed` does: unlike
-there, keys that begin with a national or an international prefix often stay without marks until
-the number is whole. `PhoneNumberMatcher` finds what `Database.matches` does.
+`;phone-context=1` is no number. `AsYouTypeFormatter` shows what `Database.library_typed` does, and
+`PhoneNumberMatcher` finds what `Database.matches` does.
 """
 
 from __future__ import annotations
@@ -251,40 +250,33 @@ class AsYouTypeFormatter:
     """A number as it is typed, character by character.
 
     >>> formatter = AsYouTypeFormatter("US")
-    >>> [formatter.input_digit(key) for key in "6502530"][-2:]
-    ['650-253', '650-2530']
+    >>> [formatter.input_digit(key) for key in "16502"]
+    ['1', '16', '1 65', '1 (650', '1 (650) 2']
     """
 
     def __init__(self, region_code: str) -> None:
-        self._hint = region_code if is_supported(region_code) else None
+        region = region_code.upper()
+        self._hint = region if is_supported(region) else None
         self.clear()
 
     def clear(self) -> None:
         """Takes all characters away."""
-        self._typed, self._shown, self._is_shown_as_typed, self._remembered = "", "", False, 0
+        self._typed, self._remembered = "", 0
 
     def input_digit(self, next_char: str, remember_position: bool = False) -> str:
         """Types a character; returns what is shown.
 
-        After one that is no digit, nor a plus sign before all of them, all are shown as they were
+        After one that is no digit, nor a plus sign before all else, all are shown as they were
         typed.
         """
-        is_plus = not self._typed and next_char in "+\uff0b"
         self._typed += next_char
-        self._is_shown_as_typed |= not (is_plus or next_char.isdecimal())
         if remember_position:
             self._remembered = len(self._typed)
-        if self._is_shown_as_typed:
-            self._shown = self._typed
-        else:
-            self._shown = _regions.world().typed(self._typed, self._hint)
-        return self._shown
+        return _regions.world().library_typed(self._typed, self._hint)
 
     def get_remembered_position(self) -> int:
         """After how many characters of what is shown the one stands that was remembered."""
-        if self._is_shown_as_typed or not self._remembered:
-            return self._remembered
-        return _regions.world().caret(self._typed, self._remembered, self._hint)
+        return _regions.world().library_caret(self._typed, self._remembered, self._hint)
 
 
 from . import (  # noqa: E402

@@ -281,6 +281,25 @@ unsafe extern "C" {
         n: usize,
         told: *mut usize,
     ) -> u32;
+    pub fn phone_keyed_shown(
+        handle: *mut Handle,
+        hint: *const u8,
+        hint_len: usize,
+        typed: *const u8,
+        typed_len: usize,
+        out: *mut u8,
+        out_len: usize,
+        wrote: *mut usize,
+    ) -> u32;
+    pub fn phone_keyed_caret(
+        handle: *mut Handle,
+        hint: *const u8,
+        hint_len: usize,
+        typed: *const u8,
+        typed_len: usize,
+        n: usize,
+        told: *mut usize,
+    ) -> u32;
     pub fn phone_short(
         handle: *mut Handle,
         region: *const u8,

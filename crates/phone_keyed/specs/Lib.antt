@@ -1,0 +1,3 @@
+pub mod Carets
+pub mod Fields
+pub mod Steps

@@ -1,0 +1,3 @@
+pub mod Borders
+pub mod Keys
+pub mod Lasts
