@@ -8,9 +8,9 @@ ghost use Rattle.phone_own_answers.specs.Costs.{is_valid_by, known_by, known_cos
 use phone_pattern::Subject;
 use phone_plans::{Plans, Territory};
 use phone_short::Cost;
-use phone_short_questions::{cost_by, dearest_of, is_number_by, is_possible_by, short_records};
+use phone_short_questions::{cost_by, dearer, is_number_by, is_possible_by, short_records};
 use phonenumber::PhoneNumber;
-use std::alloc::{AllocError, Global};
+use std::alloc::AllocError;
 
 /// What a short number costs, where its region isn't told: as `cost_anywhere` of
 /// `phone_short_questions`, but in the regions of its calling code whose table knows it, so that
@@ -21,44 +21,23 @@ pub fn known_cost(database: &Plans, short: &Plans, number: &PhoneNumber) -> Resu
 {
     let digits = number.national().to_string(database.allocator())?;
     let records = short_records(database, short, number)?;
-    dearest_known(
-        short.allocator(),
-        records.as_slice(),
-        &Subject::of(digits.as_str()),
-    )
+    dearest_known(records.as_slice(), &Subject::of(digits.as_str()))
 }
 
 /// The first that digits cost by those of these records that know them of premium rate, an unknown
 /// cost, standard rate and nothing; unknown without one. Refused only for memory.
-fn dearest_known(
-    alloc: Global,
-    records: &[Option<&Territory>],
-    digits: &Subject<'_>,
-) -> Result<Cost, AllocError>
+fn dearest_known(records: &[Option<&Territory>], digits: &Subject<'_>) -> Result<Cost, AllocError>
     ensures { IfOk result (λ c. c ≡ dearest_of (map (cost_by digits.now)
         (filter (known_by digits.now) (map option_copied records.now)))) }
 {
-    let costs = known_costs(alloc, records, digits)?;
-    Ok(dearest_of(costs.as_slice()))
-}
-
-/// What digits cost by those of these records that know them. Refused only for memory.
-fn known_costs(
-    alloc: Global,
-    records: &[Option<&Territory>],
-    digits: &Subject<'_>,
-) -> Result<Vec<Cost>, AllocError>
-    ensures { IfOk result (λ v. v.items ≡ map (cost_by digits.now)
-        (filter (known_by digits.now) (map option_copied records.now))) }
-{
-    let mut costs = Vec::with_capacity(alloc, records.len())?;
+    let mut dearest = None;
     for row in records {
         let cost = cost_by(*row, digits)?;
         if is_known_by(*row, digits, cost)? {
-            costs.push(cost)?;
+            dearest = Some(dearer(dearest, cost));
         }
     }
-    Ok(costs)
+    Ok(dearest.unwrap_or(Cost::Unknown))
 }
 
 /// Whether a record knows digits, of which it tells this cost. Refused only for memory.

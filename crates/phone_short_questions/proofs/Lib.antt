@@ -1,3 +1,3 @@
 pub mod Among
-pub mod Found
+pub mod InTurn
 pub mod Plain

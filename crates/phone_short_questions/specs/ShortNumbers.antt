@@ -98,6 +98,11 @@ dearest_of costs =
     else if list_any (is_one_cost TollFree) costs then TollFree
     else Unknown
 
+-- a cost that may be there, as a list
+abbrev pub held : Option Cost → List Cost
+held None = []
+held (Some c) = c ∷ []
+
 -- what digits cost where the region isn't told: of what they cost in the territories' regions
 abbrev pub dearest : List Metadata → List ℕ → List Metadata → Cost
 dearest short digits ms = dearest_of (map (cost_in short digits) ms)

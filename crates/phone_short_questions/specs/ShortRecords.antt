@@ -1,11 +1,12 @@
 -- Short numbers by the records of the regions of a calling code, of which some have none: what is
 -- asked of each is asked of digits that were read before.
-use Rattle.std.specs.Prelude.{ℕ, Bool, false, if◌then◌else◌, List, [], ◌∷◌, is_some, map, Option}
-use Rattle.std.specs.Prelude.{None, Some}
+use Rattle.std.specs.Prelude.{◌≡◌, ℕ, Bool, false, if◌then◌else◌, List, [], ◌∷◌, is_some, map}
+use Rattle.std.specs.Prelude.{Option, None, Some}
 use Rattle.std.specs.List.{list_any}
 use Rattle.std.specs.Option.{option_and_then, option_map_or}
 use Rattle.phone_values.specs.declared.reading.Reading.{Reading}
 use Rattle.phone_plans.specs.CodeLookUps.{territories}
+use Rattle.phone_plans.specs.Lasts.{last_of}
 use Rattle.phone_records.specs.Missing.{first_given}
 use Rattle.phone_records.specs.declared.loader.Metadata.{Metadata}
 use Rattle.phone_short.specs.Costs as costs
@@ -19,6 +20,10 @@ use Rattle.phone_short_questions.specs.declared.short_numbers.FactsAnywhere.{Fac
 -- the records of the regions of a number's calling code, in the order of its territories
 abbrev pub short_records : (db short : List Metadata) → Reading → List (Option Metadata)
 short_records db short n = map (short_record short) (territories n.code.value db)
+
+-- a territory with the last one of its id
+abbrev pub IsWithLast : List Metadata → Metadata × Option Metadata → Type 0
+IsWithLast db t = t.1 ≡ last_of db t.0
 
 -- digits are possible by a record
 abbrev pub is_possible_by : List ℕ → Option Metadata → Bool

@@ -3,10 +3,11 @@
 #![tactic(auto)]
 
 mod records;
+mod rows;
 mod services;
 mod short_numbers;
 
-pub use records::{cost_by, dearest_of, is_number_by, is_possible_by, short_records};
+pub use records::{cost_by, dearer, is_number_by, is_possible_by, short_records};
 pub use services::is_sms_service;
 pub use short_numbers::{
     FactsAnywhere, cost_anywhere, facts_anywhere, is_carrier_anywhere, is_possible_anywhere,

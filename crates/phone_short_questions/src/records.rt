@@ -1,25 +1,25 @@
 //! Short numbers by the records of the regions of a calling code: each region's is looked up once,
 //! and what is asked of it is asked of digits that were read before.
-ghost use Rattle.std.specs.Prelude.{◌≡◌, ◌==◌, IfOk, Some, map};
-ghost use Rattle.std.specs.Borrow.{Bor};
+ghost use Rattle.std.specs.Prelude.{◌≡◌, ◌==◌, ◌∷◌, ◌++◌, [], IfOk, Some, filter, map, reverse};
+ghost use Rattle.phone_plans.specs.CodeLookUps.{is_main_of, is_other_of};
 ghost use Rattle.std.specs.List.{list_any};
 ghost use Rattle.std.specs.Option.{option_and_then, option_copied};
-ghost use Rattle.phone_records.specs.declared.loader.Metadata as loader;
 ghost use Rattle.phone_short.specs.Costs as costs;
 ghost use Rattle.phone_short.specs.Emergencies.{is_emergency_number};
 ghost use Rattle.phone_short.specs.Numbers as numbers;
-ghost use Rattle.phone_short_questions.specs.ShortNumbers.{dearest_of, is_one_cost, is_valid_by};
+ghost use Rattle.phone_short_questions.specs.ShortNumbers.{dearest_of, held, is_valid_by};
 ghost use Rattle.phone_short_questions.specs.ShortNumbers.{short_record};
 ghost use Rattle.phone_short_questions.specs.ShortRecords.{chosen_by, cost_by, first_code};
 ghost use Rattle.phone_short_questions.specs.ShortRecords.{if_code, is_carrier_by, is_number_by};
 ghost use Rattle.phone_short_questions.specs.ShortRecords.{is_possible_by, is_valid_among};
 ghost use Rattle.phone_short_questions.specs.ShortRecords.{short_records};
 
+use crate::rows::{Rows, short_record};
 use phone_pattern::Subject;
 use phone_plans::{Descriptor, Plans, Territory};
 use phone_short::Cost;
 use phonenumber::PhoneNumber;
-use std::alloc::{AllocError, Global};
+use std::alloc::AllocError;
 
 /// The records of short numbers of the regions of a number's calling code, in the order of the
 /// code's territories; none for a territory whose region has no short numbers, or that is no
@@ -32,36 +32,52 @@ pub fn short_records<'d>(
     ensures { IfOk result (λ v. map option_copied v.items ≡
         short_records database.now short.entry.now number.now) }
 {
-    match database.by_code(&number.code().value())? {
-        Some(found) => records_of(short, found.as_slice()),
-        None => Ok(Vec::new(database.allocator())),
-    }
+    let code = number.code().value();
+    let mains = of_mains(database, short, code)?;
+    with_others(database, short, code, mains)
 }
 
-/// The records of the regions of these territories. Refused only for memory.
-fn records_of<'d>(
+/// The records of the regions of a code's main territories, latest first. Refused only for memory.
+fn of_mains<'d>(
+    database: &Plans,
     short: &'d Plans,
-    found: &[&Territory],
+    code: u16,
 ) -> Result<Vec<Option<&'d Territory>>, AllocError>
     ensures { IfOk result (λ v. map option_copied v.items ≡
-        map (short_record short.entry.now)
-        (map (λ (m : Bor loader.Metadata). m.now) found.now)) }
+        map (short_record short.entry.now) (reverse (filter (is_main_of code) database.now))) }
 {
-    let mut records = Vec::with_capacity(short.allocator(), found.len())?;
-    for m in found {
-        records.push(short_record(short, m))?;
+    // Room for those of 1, the code of most regions.
+    let mut records = Vec::with_capacity(database.allocator(), 32)?;
+    let mut rest = database.of_code(code);
+    while let Some(m) = rest.take_last() {
+        if m.is_main_country_for_code() {
+            records.push(short_record(short, m))?;
+        }
     }
     Ok(records)
 }
 
-/// The short numbers of a territory's region.
-fn short_record<'d>(short: &'d Plans, m: &Territory) -> Option<&'d Territory>
-    ensures { option_copied result ≡ short_record short.entry.now m.now }
+/// These records, and behind them those of the regions of a code's other territories, in order of
+/// arrival. Refused only for memory.
+fn with_others<'d>(
+    database: &Plans,
+    short: &'d Plans,
+    code: u16,
+    mains: Vec<Option<&'d Territory>>,
+) -> Result<Vec<Option<&'d Territory>>, AllocError>
+    ensures { IfOk result (λ v. map option_copied v.items ≡
+        map option_copied mains.entry.items ++
+        map (short_record short.entry.now) (filter (is_other_of code) database.now)) }
 {
-    match m.region() {
-        Some(region) => short.by_id(region.as_str()),
-        None => None,
+    let mut records = mains;
+    let mut rows = Rows::of_code(short, code);
+    for m in database.of_code(code) {
+        let record = rows.record_of(m);
+        if !m.is_main_country_for_code() {
+            records.push(record)?;
+        }
     }
+    Ok(records)
 }
 
 /// Whether digits are possible by one of these records.
@@ -100,20 +116,20 @@ fn lists(lengths: &[u16], count: usize) -> bool
     lengths.iter().any(|n| usize::from(*n) == count)
 }
 
-/// What digits cost by these records, in their order. Refused only for memory.
-pub(crate) fn costs_by(
-    alloc: Global,
+/// What digits cost by these records: the first there is of premium rate, an unknown cost, standard
+/// rate and nothing; unknown without a record. Refused only for memory.
+pub(crate) fn dearest_by(
     records: &[Option<&Territory>],
     digits: &Subject<'_>,
-) -> Result<Vec<Cost>, AllocError>
-    ensures { IfOk result (λ v. v.items ≡
-        map (cost_by digits.now) (map option_copied records.now)) }
+) -> Result<Cost, AllocError>
+    ensures { IfOk result (λ c. c ≡
+        dearest_of (map (cost_by digits.now) (map option_copied records.now))) }
 {
-    let mut costs = Vec::with_capacity(alloc, records.len())?;
+    let mut dearest = None;
     for row in records {
-        costs.push(cost_by(*row, digits)?)?;
+        dearest = Some(dearer(dearest, cost_by(*row, digits)?));
     }
-    Ok(costs)
+    Ok(dearest.unwrap_or(Cost::Unknown))
 }
 
 /// What digits cost by a record: of premium rate, standard rate and toll free the first whose
@@ -192,41 +208,16 @@ fn has_digits(descriptor: &Descriptor, digits: &Subject<'_>) -> Result<bool, All
     descriptor.pattern().is_whole_match_in(digits)
 }
 
-/// Of costs the first there is of premium rate, an unknown cost, standard rate and nothing; unknown
-/// without one. Takes no memory.
-pub fn dearest_of(costs: &[Cost]) -> Cost
-    ensures { result ≡ dearest_of costs.now }
+/// Of two costs, or of the second alone, the first there is of premium rate, an unknown cost,
+/// standard rate and nothing. Takes no memory.
+pub fn dearer(first: Option<Cost>, second: Cost) -> Cost
+    ensures { result ≡ dearest_of (held first ++ second ∷ []) }
 {
-    if has_cost(costs, Cost::PremiumRate) {
-        Cost::PremiumRate
-    } else if has_cost(costs, Cost::Unknown) {
-        Cost::Unknown
-    } else if has_cost(costs, Cost::StandardRate) {
-        Cost::StandardRate
-    } else if has_cost(costs, Cost::TollFree) {
-        Cost::TollFree
-    } else {
-        Cost::Unknown
-    }
-}
-
-/// Whether a cost is among others.
-fn has_cost(costs: &[Cost], wanted: Cost) -> bool
-    ensures { result ≡ list_any (is_one_cost wanted) costs.now }
-{
-    costs.iter().any(|cost| is_one_cost(wanted, *cost))
-}
-
-/// Whether two costs are one.
-fn is_one_cost(a: Cost, b: Cost) -> bool
-    ensures { result ≡ is_one_cost a b }
-{
-    match (a, b) {
-        (Cost::PremiumRate, Cost::PremiumRate) => true,
-        (Cost::StandardRate, Cost::StandardRate) => true,
-        (Cost::TollFree, Cost::TollFree) => true,
-        (Cost::Unknown, Cost::Unknown) => true,
-        _ => false,
+    match (first, second) {
+        (Some(Cost::PremiumRate), _) | (_, Cost::PremiumRate) => Cost::PremiumRate,
+        (Some(Cost::Unknown), _) | (_, Cost::Unknown) => Cost::Unknown,
+        (Some(Cost::StandardRate), _) | (_, Cost::StandardRate) => Cost::StandardRate,
+        _ => Cost::TollFree,
     }
 }
 

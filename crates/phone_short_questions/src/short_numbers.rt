@@ -5,21 +5,20 @@ ghost use Rattle.phone_short_questions.specs.ShortNumbers.{cost_anywhere, exampl
 ghost use Rattle.phone_short_questions.specs.ShortNumbers.{facts_anywhere, is_carrier_anywhere};
 ghost use Rattle.phone_short_questions.specs.ShortNumbers.{is_possible_anywhere};
 ghost use Rattle.phone_short_questions.specs.ShortNumbers.{is_valid_anywhere, numbers_of_cost};
-ghost use Rattle.phone_short_questions.specs.ShortNumbers.{dearest_of, short_example};
+ghost use Rattle.phone_short_questions.specs.ShortNumbers.{short_example};
 ghost use Rattle.phone_short_questions.specs.ShortNumbers.{short_example_of_cost};
-ghost use Rattle.phone_short_questions.specs.ShortRecords.{chosen_by, cost_by, facts_among};
+ghost use Rattle.phone_short_questions.specs.ShortRecords.{chosen_by, facts_among};
 ghost use Rattle.phone_short_questions.specs.ShortRecords.{is_carrier_by, is_valid_among};
 
 use crate::records::{
-    chosen_by, costs_by, dearest_of, is_carrier_by, is_possible_among, is_valid_by_chosen,
-    short_records,
+    chosen_by, dearest_by, is_carrier_by, is_possible_among, is_valid_by_chosen, short_records,
 };
 use phone_pattern::Subject;
 use phone_plans::{Descriptor, Plans, Territory};
 use phone_short::Cost;
 use phone_values::country::Id;
 use phonenumber::PhoneNumber;
-use std::alloc::{AllocError, Global};
+use std::alloc::AllocError;
 
 /// What is known of a number as a short number of any region of its calling code.
 #[derive(Clone, Copy, PartialEq, Eq, Debug)]
@@ -112,25 +111,7 @@ pub fn cost_anywhere(
 {
     let digits = number.national().to_string(database.allocator())?;
     let records = short_records(database, short, number)?;
-    dearest(
-        short.allocator(),
-        records.as_slice(),
-        &Subject::of(digits.as_str()),
-    )
-}
-
-/// What digits cost by these records: the first there is of premium rate, an unknown cost, standard
-/// rate and nothing; unknown without a record. Refused only for memory.
-fn dearest(
-    alloc: Global,
-    records: &[Option<&Territory>],
-    digits: &Subject<'_>,
-) -> Result<Cost, AllocError>
-    ensures { IfOk result (λ c. c ≡
-        dearest_of (map (cost_by digits.now) (map option_copied records.now))) }
-{
-    let costs = costs_by(alloc, records, digits)?;
-    Ok(dearest_of(costs.as_slice()))
+    dearest_by(records.as_slice(), &Subject::of(digits.as_str()))
 }
 
 /// All that is known of a number as a short number of any region of its calling code, whose
@@ -145,16 +126,11 @@ pub fn facts_anywhere(
 {
     let digits = number.national().to_string(database.allocator())?;
     let records = short_records(database, short, number)?;
-    facts_among(
-        short.allocator(),
-        records.as_slice(),
-        &Subject::of(digits.as_str()),
-    )
+    facts_among(records.as_slice(), &Subject::of(digits.as_str()))
 }
 
 /// The same of digits, by these records. Refused only for memory.
 fn facts_among(
-    alloc: Global,
     records: &[Option<&Territory>],
     digits: &Subject<'_>,
 ) -> Result<FactsAnywhere, AllocError>
@@ -163,7 +139,7 @@ fn facts_among(
 {
     let chosen = chosen_by(records, digits)?;
     Ok(FactsAnywhere {
-        cost: dearest(alloc, records, digits)?,
+        cost: dearest_by(records, digits)?,
         is_possible: is_possible_among(records, digits.as_str()),
         is_valid: is_valid_by_chosen(records, chosen, digits)?,
         is_carrier_specific: is_carrier_by(chosen, digits)?,

@@ -14,6 +14,6 @@ returns c =
     let n = c.args.number.now in
     let digits : c.of.result ≡ text_of n.national = search rules in
     let rows : map option_copied c.as_slice.result.now ≡ short_records c.args.database.now c.args.short.now n = search rules in
-    ok_again c.dearest.result _ _
+    ok_again c.dearest_by.result _ _
     (λ told e. e ∙ ap₂ (λ ds rs. dearest_of (map (cost_by ds) rs)) digits rows ∙ cost_same c.args.short.now (text_of n.national) (plain n.national) (territories n.code.value c.args.database.now))
-    c.dearest.ensures
+    c.dearest_by.ensures

@@ -1,0 +1,92 @@
+//! Records of short numbers, looked up in the order of a calling code's territories.
+ghost use Rattle.std.specs.Prelude.{◌≡◌, IfSome};
+ghost use Rattle.std.specs.Option.{option_and_then, option_copied};
+ghost use Rattle.phone_plans.specs.Lasts.{seen};
+ghost use Rattle.phone_territory.specs.Records.{id_of};
+ghost use Rattle.phone_short_questions.specs.ShortNumbers.{region_of, short_record};
+ghost use Rattle.phone_short_questions.specs.ShortRecords.{IsWithLast};
+
+use phone_plans::{Plans, Territory, WithLast, WithLasts};
+use std::marker::Model;
+
+/// The records of a table of short numbers, of which those of a calling code stand ready in their
+/// order: where the territories that are asked about come in the same order, none is looked up by
+/// its id. Contracts see the table.
+#[derive(Drop)]
+pub(crate) struct Rows<'d> {
+    short: &'d Plans,
+    next: Option<WithLast<'d>>,
+    rest: WithLasts<'d>,
+}
+
+impl<'d> Model for Rows<'d> {
+    ghost use Rattle.std.specs.Prelude.{IfSome, List, option_map};
+    ghost use Rattle.std.specs.List.{AllByRecursion};
+    ghost use Rattle.phone_plans.specs.Lasts.{seen};
+    ghost use Rattle.phone_records.specs.declared.loader.Metadata as loader;
+    ghost use Rattle.phone_short_questions.specs.ShortRecords.{IsWithLast};
+
+    ghost Value = { List loader.Metadata };
+
+    ghost view = { λ r. r.short.now };
+
+    ghost invariant = { λ r. IfSome (option_map seen r.next) (IsWithLast r.short.now) ×
+        AllByRecursion (IsWithLast r.short.now) r.rest };
+}
+
+impl<'d> Rows<'d> {
+    /// The records of a table, those of a code ready.
+    pub(crate) fn of_code(short: &'d Plans, code: u16) -> Rows<'d>
+        ensures { result ≡ short.entry.now }
+    {
+        let mut rest = short.of_code_with_lasts(code);
+        let next = rest.next();
+        Rows { short, next, rest }
+    }
+
+    /// The short numbers of a territory's region.
+    pub(crate) fn record_of(&mut self, m: &Territory) -> Option<&'d Territory>
+        ensures table { self.new ≡ self.old }
+        ensures record { option_copied result ≡ short_record self.old m.now }
+    {
+        match self.take_of(m.id()) {
+            Some(row) => record_in(row, m),
+            None => short_record(self.short, m),
+        }
+    }
+
+    /// Takes the next record, where it has this id.
+    fn take_of(&mut self, id: &str) -> Option<WithLast<'d>>
+        ensures table { self.new ≡ self.old }
+        ensures row { IfSome result (λ row.
+            (id_of row.territory.now ≡ id.now) × IsWithLast self.old (seen row)) }
+    {
+        let row = self.next?;
+        if row.territory.id() != id {
+            return None;
+        }
+        self.next = self.rest.next();
+        Some(row)
+    }
+}
+
+/// The last record of a territory's id, of which this row is, where it is a region's.
+fn record_in<'d>(row: WithLast<'d>, m: &Territory) -> Option<&'d Territory>
+    ensures { option_copied result ≡
+        option_and_then (λ _. option_copied row.entry.last) (region_of m.now) }
+{
+    match m.region() {
+        Some(_) => row.last,
+        None => None,
+    }
+}
+
+/// The short numbers of a territory's region, looked up by its id.
+pub(crate) fn short_record<'d>(short: &'d Plans, m: &Territory) -> Option<&'d Territory>
+    ensures { option_copied result ≡ short_record short.entry.now m.now }
+{
+    match m.region() {
+        Some(region) => short.by_id(region.as_str()),
+        None => None,
+    }
+}
