@@ -1,9 +1,9 @@
 //! Short numbers by the records of the regions of a calling code: each region's is looked up once,
 //! and what is asked of it is asked of digits that were read before.
-ghost use Rattle.std.specs.Prelude.{◌≡◌, ◌==◌, ◌∷◌, ◌++◌, [], IfOk, Some, filter, map, reverse};
-ghost use Rattle.phone_plans.specs.CodeLookUps.{is_main_of, is_other_of};
+ghost use Rattle.std.specs.Prelude.{◌≡◌, ◌==◌, ◌∷◌, ◌++◌, [], IfOk, Some, map};
 ghost use Rattle.std.specs.List.{list_any};
 ghost use Rattle.std.specs.Option.{option_and_then, option_copied};
+ghost use Rattle.phone_plans.specs.CodeLookUps.{territories};
 ghost use Rattle.phone_short.specs.Costs as costs;
 ghost use Rattle.phone_short.specs.Emergencies.{is_emergency_number};
 ghost use Rattle.phone_short.specs.Numbers as numbers;
@@ -14,7 +14,7 @@ ghost use Rattle.phone_short_questions.specs.ShortRecords.{if_code, is_carrier_b
 ghost use Rattle.phone_short_questions.specs.ShortRecords.{is_possible_by, is_valid_among};
 ghost use Rattle.phone_short_questions.specs.ShortRecords.{short_records};
 
-use crate::rows::{Rows, short_record};
+use crate::rows::Rows;
 use phone_pattern::Subject;
 use phone_plans::{Descriptor, Plans, Territory};
 use phone_short::Cost;
@@ -32,48 +32,26 @@ pub fn short_records<'d>(
     ensures { IfOk result (λ v. map option_copied v.items ≡
         short_records database.now short.entry.now number.now) }
 {
-    let code = number.code().value();
-    let mains = of_mains(database, short, code)?;
-    with_others(database, short, code, mains)
+    records_of(database, short, number.code().value())
 }
 
-/// The records of the regions of a code's main territories, latest first. Refused only for memory.
-fn of_mains<'d>(
+/// The records of the regions of a calling code. Refused only for memory.
+fn records_of<'d>(
     database: &Plans,
     short: &'d Plans,
     code: u16,
 ) -> Result<Vec<Option<&'d Territory>>, AllocError>
     ensures { IfOk result (λ v. map option_copied v.items ≡
-        map (short_record short.entry.now) (reverse (filter (is_main_of code) database.now))) }
+        map (short_record short.entry.now) (territories code database.now)) }
 {
     // Room for those of 1, the code of most regions.
     let mut records = Vec::with_capacity(database.allocator(), 32)?;
-    let mut rest = database.of_code(code);
-    while let Some(m) = rest.take_last() {
-        if m.is_main_country_for_code() {
-            records.push(short_record(short, m))?;
-        }
-    }
-    Ok(records)
-}
-
-/// These records, and behind them those of the regions of a code's other territories, in order of
-/// arrival. Refused only for memory.
-fn with_others<'d>(
-    database: &Plans,
-    short: &'d Plans,
-    code: u16,
-    mains: Vec<Option<&'d Territory>>,
-) -> Result<Vec<Option<&'d Territory>>, AllocError>
-    ensures { IfOk result (λ v. map option_copied v.items ≡
-        map option_copied mains.entry.items ++
-        map (short_record short.entry.now) (filter (is_other_of code) database.now)) }
-{
-    let mut records = mains;
     let mut rows = Rows::of_code(short, code);
     for m in database.of_code(code) {
         let record = rows.record_of(m);
-        if !m.is_main_country_for_code() {
+        if m.is_main_country_for_code() {
+            records.insert(0, record)?;
+        } else {
             records.push(record)?;
         }
     }

@@ -1,12 +1,14 @@
 //! Records of short numbers, looked up in the order of a calling code's territories.
-ghost use Rattle.std.specs.Prelude.{◌≡◌, IfSome};
-ghost use Rattle.std.specs.Option.{option_and_then, option_copied};
+ghost use Rattle.std.specs.Prelude.{◌≡◌, IfSome, Some};
+ghost use Rattle.std.specs.Option.{option_copied};
 ghost use Rattle.phone_plans.specs.Lasts.{seen};
-ghost use Rattle.phone_territory.specs.Records.{id_of};
+ghost use Rattle.phone_short.specs.Regions.{record_of};
 ghost use Rattle.phone_short_questions.specs.ShortNumbers.{region_of, short_record};
 ghost use Rattle.phone_short_questions.specs.ShortRecords.{IsWithLast};
 
 use phone_plans::{Plans, Territory, WithLast, WithLasts};
+use phone_values::country::Id;
+use phone_values::equality::SameValue;
 use std::marker::Model;
 
 /// The records of a table of short numbers, of which those of a calling code stand ready in their
@@ -49,44 +51,35 @@ impl<'d> Rows<'d> {
         ensures table { self.new ≡ self.old }
         ensures record { option_copied result ≡ short_record self.old m.now }
     {
-        match self.take_of(m.id()) {
-            Some(row) => record_in(row, m),
-            None => short_record(self.short, m),
+        match m.region() {
+            Some(region) => self.of_region(region),
+            None => None,
         }
     }
 
-    /// Takes the next record, where it has this id.
-    fn take_of(&mut self, id: &str) -> Option<WithLast<'d>>
+    /// The short numbers of a region.
+    fn of_region(&mut self, region: Id) -> Option<&'d Territory>
+        ensures table { self.new ≡ self.old }
+        ensures record { option_copied result ≡ record_of self.old region }
+    {
+        match self.take_of(region) {
+            Some(row) => row.last,
+            None => self.short.by_id(region.as_str()),
+        }
+    }
+
+    /// Takes the next record, where it is this region's.
+    fn take_of(&mut self, region: Id) -> Option<WithLast<'d>>
         ensures table { self.new ≡ self.old }
         ensures row { IfSome result (λ row.
-            (id_of row.territory.now ≡ id.now) × IsWithLast self.old (seen row)) }
+            (region_of row.territory.now ≡ Some region) × IsWithLast self.old (seen row)) }
     {
         let row = self.next?;
-        if row.territory.id() != id {
+        let own = row.territory.region()?;
+        if !own.is_same(&region) {
             return None;
         }
         self.next = self.rest.next();
         Some(row)
-    }
-}
-
-/// The last record of a territory's id, of which this row is, where it is a region's.
-fn record_in<'d>(row: WithLast<'d>, m: &Territory) -> Option<&'d Territory>
-    ensures { option_copied result ≡
-        option_and_then (λ _. option_copied row.entry.last) (region_of m.now) }
-{
-    match m.region() {
-        Some(_) => row.last,
-        None => None,
-    }
-}
-
-/// The short numbers of a territory's region, looked up by its id.
-pub(crate) fn short_record<'d>(short: &'d Plans, m: &Territory) -> Option<&'d Territory>
-    ensures { option_copied result ≡ short_record short.entry.now m.now }
-{
-    match m.region() {
-        Some(region) => short.by_id(region.as_str()),
-        None => None,
     }
 }
