@@ -8,8 +8,6 @@ mod class;
 mod cursor;
 mod reading;
 mod size;
-#[cfg(test)]
-mod tests;
 mod trees;
 mod whole;
 

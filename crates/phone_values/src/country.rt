@@ -1,10 +1,9 @@
 //! Where a number belongs: region ids, and calling codes with the way they were found.
 ghost use Rattle.std.specs.Prelude.{◌≡◌, MatchOption, Some, None, [], get_or, map};
-ghost use Rattle.std.specs.List.{find, slice_get};
+ghost use Rattle.std.specs.List.{find};
 ghost use Rattle.std.specs.Str.{bytes_eq};
 ghost use Rattle.phone_values.specs.Ids.{name, id_of};
 ghost use Rattle.phone_values.specs.declared.country.Id.{Id};
-ghost use Rattle.phone_values.specs.declared.country.TheConstants.{ALL};
 
 use serde::{Described, Deserialize, Deserializer, Format, Serialize, Serializer};
 use std::alloc::Global;
@@ -637,13 +636,6 @@ impl Id {
         ensures { result.now ≡ name self.now }
     {
         name_at(&NAMES, *self as usize)
-    }
-
-    /// The id's place in `ALL`, from 0 on: what a list with an entry for each id is looked up by.
-    pub fn place(&self) -> usize
-        ensures { slice_get ALL result ≡ Some self.now }
-    {
-        *self as usize
     }
 }
 

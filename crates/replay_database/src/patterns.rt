@@ -2,10 +2,11 @@
 //! numbers of bytes.
 use anyhow::Result;
 use phone_pattern::Pattern;
+use phone_plain::plain;
 use phone_records::loader::Text;
 use replay_base::marks::{around, begin};
 use replay_base::table::Row;
-use replay_base::words::{part_of, truth};
+use replay_base::words::{part_of, said, truth};
 use std::alloc::{AllocError, Global};
 
 /// What a search of a line's pattern gives, as the table writes it; none for any other call. An
@@ -15,7 +16,16 @@ pub fn answer(alloc: Global, row: &Row) -> Result<Option<String>> {
         "first-span" | "at-start" | "whole-match" | "captured" | "replaced" => {
             Ok(Some(search(alloc, row)?))
         }
+        "plain-pattern" => Ok(Some(plainness(alloc, row.argument(0))?)),
         _ => Ok(None),
+    }
+}
+
+/// How many groups a plain pattern has, and its size; a hyphen where the text is no plain pattern.
+fn plainness(alloc: Global, text: &str) -> Result<String> {
+    match plain(alloc, text)? {
+        Some(found) => Ok(format!(in alloc; "{} {}", found.groups, found.size)?),
+        None => said(alloc, "-"),
     }
 }
 
