@@ -5,7 +5,7 @@ use replay_base::table::Row;
 use replay_database::look_ups;
 use replay_database::named::{Named, load, of_name};
 use replay_numbers::printing::layouts_of;
-use replay_questions::short;
+use replay_questions::{matches, short};
 use std::alloc::{AllocGlobal, Global};
 use std::fs::Files;
 
@@ -78,12 +78,6 @@ fn on_database(
     if let Some(found) = replay_questions::answer(alloc, row, db)? {
         return Ok(Some(found));
     }
-    if let Some(found) = replay_places::answer(alloc, row, db)? {
-        return Ok(Some(found));
-    }
-    if let Some(found) = replay_typed::answer(alloc, row, db)? {
-        return Ok(Some(found));
-    }
     replay_util::answer(alloc, row, db)
 }
 
@@ -101,9 +95,9 @@ pub fn answer<R: Files + AllocGlobal>(rt: &R, row: &Row, at_hand: &mut AtHand) -
         let short = of_name(rt, &mut at_hand.short, SHORT)?;
         return short::answer(rt.alloc(), row, db, short);
     }
-    if replay_matches::is_asked(row) {
+    if matches::is_asked(row) {
         let alternates = of_name(rt, &mut at_hand.alternates, ALTERNATES)?;
-        return replay_matches::answer(rt.alloc(), row, db, alternates);
+        return matches::answer(rt.alloc(), row, db, alternates);
     }
     match under(rt, row, db)? {
         Some(found) => Ok(found),

@@ -7,7 +7,7 @@ use std::alloc::AllocGlobal;
 use std::fs::{self, Files};
 
 /// The tables, by their files.
-const TABLES: [&str; 31] = [
+const TABLES: [&str; 32] = [
     "calls.tsv",
     "report.tsv",
     "json.tsv",
@@ -15,6 +15,7 @@ const TABLES: [&str; 31] = [
     "devices.tsv",
     "lines.tsv",
     "databases.tsv",
+    "compact.tsv",
     "layouts.tsv",
     "patterns.tsv",
     "readers.tsv",

@@ -2,8 +2,6 @@
 //! Behind a call's database stand a hint and the characters. `keyed` answers what is shown after
 //! each character, `keyed-caret` after how many of what is shown at last each stands, with vertical
 //! bars between.
-#![tactic(auto)]
-
 use anyhow::{Result, anyhow};
 use phone_keyed::Keyed;
 use phone_meta::Database;

@@ -1,8 +1,6 @@
 //! Rows of the numbers that libphonenumber finds in texts. A line's call is `matches`; behind its
 //! database stand a hint, a leniency by libphonenumber's name, and the text. The answer is each
 //! match's place, `START..END` in characters, a colon, and its E.164 text, parted by tabs.
-#![tactic(auto)]
-
 use anyhow::{Result, anyhow};
 use phone_matches::{Leniency, Match, find_matches_by};
 use phone_meta::Database;

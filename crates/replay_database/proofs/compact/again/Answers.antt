@@ -2,7 +2,7 @@ use Rattle.std.proofs.Common.{◌≡◌, ◌∙◌, sym, IfOk, Result, Ok, Err, 
 use Rattle.phone_records.specs.declared.loader.Metadata.{Metadata}
 use Rattle.phone_compact.specs.Records.{written}
 use Rattle.phone_compact.proofs.Injective.{written_injective}
-use Rattle.compact_examples.proofs.again.again.Goals as goal
+use Rattle.replay_database.proofs.compact.again.Goals as goal
 
 where_ok : {A E : Type 0} (P Q : A → Type 0) → ((x : A) → P x → Q x) → (r : Result A E) →
     IfOk r P → IfOk r Q

@@ -1,4 +1,4 @@
-//! What a line gives.
+//! What a line on where a number is gives: tables, the user's region.
 use anyhow::Result;
 use phone_languages::Names;
 use phone_prefixes::Prefixes;

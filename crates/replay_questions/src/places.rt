@@ -1,5 +1,10 @@
-//! What is told of a line's number.
-use crate::given::{lent, names, table, user};
+//! Rows of answers on where a number is. A line's call is `place`; behind its database stand a
+//! number, a locale, the user's region; then tables of texts, those of the locale's language and
+//! of English for areas, the same for carriers, of time zones; and the tables of names, the texts
+//! of those files that are there, bars between them. The answer is which file of texts the locale
+//! asks for, which files of names; then description, carrier and time zones; the same three of the
+//! number as it stands; and the carrier that is safe to show.
+use crate::locales::{lent, names, table, user};
 use anyhow::{Result, anyhow};
 use phone_languages::{Atlas, Locale, Texts};
 use phone_meta::Database;
