@@ -7,19 +7,19 @@ ghost use Rattle.phone_c_base.specs.Buffers.{IsTooLongA, IsWrittenA};
 ghost use Rattle.phone_c_base.specs.Handles.{IsClosed, IsKept};
 ghost use Rattle.phone_c_base.specs.Hints.{hint_of};
 ghost use Rattle.phone_c_base.specs.Numbers.{AreNoNumber, AreNone};
-ghost use Rattle.phone_c_dialling.specs.Formats.{IsMobileText, IsTextAsWritten, IsTextFrom};
-ghost use Rattle.phone_c_dialling.specs.Formats.{IsTextIn};
-ghost use Rattle.phone_c_dialling.specs.Layouts.{IsTextBy};
-ghost use Rattle.phone_c_dialling.specs.ShortNumbers.{AreFactsAnywhere, HasExample, cost_asked};
+ghost use Rattle.phone_c_questions.specs.Formats.{IsMobileText, IsTextAsWritten, IsTextFrom};
+ghost use Rattle.phone_c_questions.specs.Formats.{IsTextIn};
+ghost use Rattle.phone_c_questions.specs.Layouts.{IsTextBy};
+ghost use Rattle.phone_c_questions.specs.ShortNumbers.{AreFactsAnywhere, HasExample, cost_asked};
 
 use phone_c_base::handle::{Handle, put, take};
 use phone_c_base::number::Number;
 use phone_c_base::status::{
     BAD_NUMBER, CLOSED, MEMORY, NO_EXAMPLE, NO_MODE, NO_REGION, NO_WORD, NOT_UTF8, OK, TOO_SMALL,
 };
-use phone_c_dialling::formats::{as_written, for_mobile, from_region, in_mode};
-use phone_c_dialling::layouts::by_layouts;
-use phone_c_dialling::short::{FactsAnywhere, anywhere, example};
+use phone_c_questions::formats::{as_written, for_mobile, from_region, in_mode};
+use phone_c_questions::layouts::by_layouts;
+use phone_c_questions::short::{FactsAnywhere, anywhere, example};
 use std::alloc::Global;
 
 /// Writes the text of a number in a mode, as `phone_format` does, where the text that it was read

@@ -4,16 +4,16 @@ ghost use Rattle.std.specs.Prelude.{◌≡◌, ◌⊎◌, ◌↔◌, None};
 ghost use Rattle.phone_values.specs.Ids.{id_of};
 ghost use Rattle.phone_c_base.specs.Handles.{IsClosed, IsKept};
 ghost use Rattle.phone_c_base.specs.Numbers.{AreNone};
-ghost use Rattle.phone_c_dialling.specs.Examples.{HasNoInvalid, IsInvalidOf, IsNumberTooLong};
-ghost use Rattle.phone_c_dialling.specs.Examples.{IsNumberWritten, IsOfCode, IsOfCodeRefused};
-ghost use Rattle.phone_c_dialling.specs.Examples.{code_text};
-ghost use Rattle.phone_c_dialling.specs.Services.{IsServiceOf};
+ghost use Rattle.phone_c_questions.specs.Examples.{HasNoInvalid, IsInvalidOf, IsNumberTooLong};
+ghost use Rattle.phone_c_questions.specs.Examples.{IsNumberWritten, IsOfCode, IsOfCodeRefused};
+ghost use Rattle.phone_c_questions.specs.Examples.{code_text};
+ghost use Rattle.phone_c_questions.specs.Services.{IsServiceOf};
 
 use phone_c_base::handle::{Handle, put, take};
 use phone_c_base::number::Number;
 use phone_c_base::status::{BAD_NUMBER, CLOSED, MEMORY, NO_EXAMPLE, NO_REGION, OK, TOO_SMALL};
-use phone_c_dialling::examples::{invalid_of, of_code};
-use phone_c_dialling::services::sms_service;
+use phone_c_questions::examples::{invalid_of, of_code};
+use phone_c_questions::services::sms_service;
 use std::alloc::Global;
 
 /// Reads the example of a calling code that serves no region, as 800: into plain numbers, and its

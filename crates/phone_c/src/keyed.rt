@@ -3,12 +3,12 @@ ghost use Rattle.std.specs.Prelude.{◌≡◌, ◌↔◌, None, IsUtf8};
 ghost use Rattle.phone_c_base.specs.Buffers.{IsTooLongA, IsWrittenA};
 ghost use Rattle.phone_c_base.specs.Handles.{IsClosed, IsKept};
 ghost use Rattle.phone_c_base.specs.Hints.{UnderHint, hint_of};
-ghost use Rattle.phone_c_keyed.specs.Typing.{IsCaret, IsShown};
+ghost use Rattle.phone_c_questions.specs.Typing.{IsCaret, IsShown};
 
 use phone_c_base::handle::{Handle, put, take};
 use phone_c_base::hint::hint_of;
 use phone_c_base::status::{CLOSED, MEMORY, NO_REGION, NOT_UTF8, OK, TOO_SMALL};
-use phone_c_keyed::typing::{caret, show};
+use phone_c_questions::typing::{caret, show};
 use std::alloc::Global;
 
 /// Writes what libphonenumber's formatter shows of a number while it is typed, as

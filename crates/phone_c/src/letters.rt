@@ -6,17 +6,17 @@ ghost use Rattle.phone_c_base.specs.Handles.{IsClosed, IsKept};
 ghost use Rattle.phone_c_base.specs.Hints.{hint_of};
 ghost use Rattle.phone_c_base.specs.Kinds.{kind_of};
 ghost use Rattle.phone_c_base.specs.Numbers.{AreNoNumber};
-ghost use Rattle.phone_c_dialling.specs.Examples.{IsNumberTooLong, IsNumberWritten};
-ghost use Rattle.phone_c_letters.specs.Examples.{HasNoneOfKind, IsKindRefused, IsOfKind};
-ghost use Rattle.phone_c_letters.specs.Letters.{IsDialledText, IsExtracted, IsLetteredText};
+ghost use Rattle.phone_c_questions.specs.Examples.{IsNumberTooLong, IsNumberWritten};
+ghost use Rattle.phone_c_questions.specs.KindExamples.{HasNoneOfKind, IsKindRefused, IsOfKind};
+ghost use Rattle.phone_c_questions.specs.Letters.{IsDialledText, IsExtracted, IsLetteredText};
 
 use phone_c_base::handle::{Handle, put, take};
 use phone_c_base::number::Number;
 use phone_c_base::status::{
     BAD_NUMBER, CLOSED, MEMORY, NO_EXAMPLE, NO_KIND, NO_REGION, NOT_UTF8, OK, TOO_SMALL,
 };
-use phone_c_letters::examples::of_kind;
-use phone_c_letters::letters::{dialled, extracted, lettered};
+use phone_c_questions::kind_examples::of_kind;
+use phone_c_questions::letters::{dialled, extracted, lettered};
 use std::alloc::Global;
 
 /// Writes how a number is dialled from a region, which is a hint as `phone_report` takes it, with

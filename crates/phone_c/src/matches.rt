@@ -3,13 +3,13 @@ ghost use Rattle.std.specs.Prelude.{◌≡◌, ◌⊎◌, ◌↔◌, None, IsUtf
 ghost use Rattle.phone_c_base.specs.Buffers.{IsTooLongA, IsWrittenA};
 ghost use Rattle.phone_c_base.specs.Handles.{IsClosed, IsKept};
 ghost use Rattle.phone_c_base.specs.Hints.{UnderHint, hint_of};
-ghost use Rattle.phone_c_matches.specs.Matches.{ArePlaces, ArePlacesBy, IsNoLeniency};
-ghost use Rattle.phone_c_matches.specs.Matches.{UnderLeniency};
+ghost use Rattle.phone_c_questions.specs.Found.{ArePlaces, ArePlacesBy, IsNoLeniency};
+ghost use Rattle.phone_c_questions.specs.Found.{UnderLeniency};
 
 use phone_c_base::found::Place;
 use phone_c_base::handle::{Handle, put, take};
 use phone_c_base::status::{CLOSED, MEMORY, NO_LENIENCY, NO_REGION, NOT_UTF8, OK, TOO_SMALL};
-use phone_c_matches::matches::{matches, matches_by};
+use phone_c_questions::found::{matches, matches_by};
 use std::alloc::Global;
 
 /// Writes where the numbers of a running text stand, in their order, under the hint that

@@ -1,2 +1,12 @@
+pub mod Extracts
+pub mod KindExamples
+pub mod Mobiles
 pub mod OneAnswers
+pub mod OneDialled
+pub mod OneExamples
 pub mod OneMatches
+pub mod OneOriginals
+pub mod OneOwnAnswers
+pub mod OneOwnMatches
+pub mod OneWays
+pub mod TextsFrom

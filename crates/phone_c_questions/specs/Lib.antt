@@ -1,6 +1,17 @@
 pub mod Carriers
+pub mod Examples
+pub mod Formats
+pub mod Found
+pub mod KindExamples
+pub mod Layouts
+pub mod Letters
 pub mod Matches
 pub mod Numbers
+pub mod Own
+pub mod OwnMatches
 pub mod Regions
+pub mod Services
+pub mod ShortNumbers
 pub mod Texts
 pub mod Truncation
+pub mod Typing

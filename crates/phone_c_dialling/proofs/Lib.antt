@@ -1,4 +1,0 @@
-pub mod OneAnswers
-pub mod OneExamples
-pub mod OneOriginals
-pub mod TextsFrom

@@ -1,4 +1,0 @@
-pub mod Examples
-pub mod Letters
-pub mod Matches
-pub mod Own
