@@ -1,4 +1,3 @@
 pub mod Answered
-pub mod Dialled
 pub mod Originals
 pub mod Templates

@@ -3,7 +3,6 @@
 #![tactic(auto)]
 
 mod abroad;
-pub mod laws;
 mod mobile;
 mod original;
 mod own_layouts;

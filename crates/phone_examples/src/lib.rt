@@ -4,7 +4,6 @@
 
 mod examples;
 mod invalid;
-pub mod laws;
 mod lowest;
 
 pub use examples::example_of_code;

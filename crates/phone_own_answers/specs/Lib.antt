@@ -1,5 +1,4 @@
 pub mod Answers
-pub mod AreaCodes
 pub mod Costs
 pub mod Matches
 pub mod Possible

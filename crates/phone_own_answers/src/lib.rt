@@ -1,10 +1,8 @@
-//! Our own answers to questions of libphonenumber, where its answers mislead; and laws of what its
-//! questions are answered.
+//! Our own answers to questions of libphonenumber, where its answers mislead.
 #![tactic(auto)]
 
 mod answers;
 mod costs;
-pub mod laws;
 mod matches;
 mod possible;
 mod text_matches;

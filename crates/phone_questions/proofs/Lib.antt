@@ -1,10 +1,5 @@
 pub mod Cuts
-pub mod Fronts
 pub mod GroupLengths
-pub mod Keys
 pub mod Lent
 pub mod Lettered
-pub mod Swaps
 pub mod TextReads
-pub mod TextSwaps
-pub mod ValidPossible

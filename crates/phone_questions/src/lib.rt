@@ -9,7 +9,6 @@ mod belonging;
 mod carriers;
 mod groups;
 mod kinds;
-pub mod laws;
 mod letters;
 mod matches;
 mod possible;

@@ -1,5 +1,0 @@
-use Rattle.phone_own_answers.proofs.TextSwaps.{texts-swap}
-use Rattle.phone_own_answers.proofs.laws.swapped_texts.Goals as goal
-
-pub returns : goal.returns
-returns c db t u x h = texts-swap db c.some_written.ensures t u x h

@@ -1,0 +1,11 @@
+pub mod Beginnings
+pub mod Dialled
+pub mod Fits
+pub mod Fronts
+pub mod Keys
+pub mod OwnSwaps
+pub mod OwnTextSwaps
+pub mod OwnValidPossible
+pub mod Swaps
+pub mod TextSwaps
+pub mod ValidPossible

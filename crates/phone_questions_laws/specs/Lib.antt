@@ -1,0 +1,2 @@
+pub mod AreaCodes
+pub mod Fitting
