@@ -7,6 +7,7 @@ ghost use Rattle.phone_short.specs.Texts as texts;
 use crate::digits::{digits_in, is_dialled_within};
 use crate::emergency::is_emergency_in;
 use crate::numbers::is_valid;
+use phone_pattern::Subject;
 use phone_territory::Territory;
 use std::alloc::AllocError;
 
@@ -54,5 +55,5 @@ fn is_valid_within(m: &Territory, text: &str) -> Result<bool, AllocError>
         return Ok(false);
     }
     let digits = digits_in(m.allocator(), text)?;
-    is_valid(m, digits.as_str())
+    is_valid(m, &Subject::of(digits.as_str()))
 }

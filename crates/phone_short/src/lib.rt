@@ -14,7 +14,8 @@ mod regions;
 
 pub use facts::{ShortFacts, short_facts};
 pub use kind::ShortKind;
-pub use rates::Cost;
+pub use numbers::{has_number, is_possible};
+pub use rates::{Cost, cost_in};
 pub use regions::{
     cost, is_carrier_specific, is_emergency, is_possible_short, is_valid_short, reaches_emergency,
     short_kind,

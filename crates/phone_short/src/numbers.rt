@@ -4,12 +4,13 @@ ghost use Rattle.std.specs.List.{list_any};
 ghost use Rattle.std.specs.Option.{option_copied};
 ghost use Rattle.phone_short.specs.Numbers.{has_number, is_carrier_specific, is_possible, is_valid};
 
+use phone_pattern::Subject;
 use phone_territory::{Descriptor, Territory};
 use std::alloc::AllocError;
 
 /// Whether a descriptor is there and has the digits: it allows their count, and its pattern matches
 /// all of them. Refused only for memory.
-pub(crate) fn has_number(descriptor: Option<&Descriptor>, digits: &str) -> Result<bool, AllocError>
+pub fn has_number(descriptor: Option<&Descriptor>, digits: &Subject<'_>) -> Result<bool, AllocError>
     ensures { IfOk result (λ b. b ≡ has_number (option_copied descriptor.entry) digits.now) }
 {
     match descriptor {
@@ -18,12 +19,15 @@ pub(crate) fn has_number(descriptor: Option<&Descriptor>, digits: &str) -> Resul
     }
 }
 
-/// Whether a descriptor has the digits. Most that are asked refuse the count or the front of the
-/// digits, which is the least dear.
-fn has_digits(descriptor: &Descriptor, digits: &str) -> Result<bool, AllocError>
+/// Whether a descriptor allows the count of the digits, and its pattern matches all of them.
+/// Refused only for memory.
+fn has_digits(descriptor: &Descriptor, digits: &Subject<'_>) -> Result<bool, AllocError>
     ensures { IfOk result (λ b. b ≡ has_number (Some descriptor.now) digits.now) }
 {
-    Ok(descriptor.is_match(digits)? && descriptor.pattern().is_whole_match(digits)?)
+    if !descriptor.allows_length(digits.as_str().len()) {
+        return Ok(false);
+    }
+    descriptor.pattern().is_whole_match_in(digits)
 }
 
 /// Whether a count of digits is listed.
@@ -34,7 +38,7 @@ fn lists(lengths: &[u16], count: usize) -> bool
 }
 
 /// Whether the general descriptor lists the count of the digits. Takes no memory.
-pub(crate) fn is_possible(m: &Territory, digits: &str) -> bool
+pub fn is_possible(m: &Territory, digits: &str) -> bool
     ensures { result ≡ is_possible m.now digits.now }
 {
     lists(m.descriptors().general().possible_length(), digits.len())
@@ -42,18 +46,18 @@ pub(crate) fn is_possible(m: &Territory, digits: &str) -> bool
 
 /// Whether the digits are possible, and both the general descriptor and that of short codes have
 /// them. Refused only for memory.
-pub(crate) fn is_valid(m: &Territory, digits: &str) -> Result<bool, AllocError>
+pub(crate) fn is_valid(m: &Territory, digits: &Subject<'_>) -> Result<bool, AllocError>
     ensures { IfOk result (λ b. b ≡ is_valid m.now digits.now) }
 {
     let kinds = m.descriptors();
-    if !is_possible(m, digits) {
+    if !is_possible(m, digits.as_str()) {
         return Ok(false);
     }
     Ok(has_digits(kinds.general(), digits)? && has_number(kinds.short_code(), digits)?)
 }
 
 /// Whether the carriers' descriptor has the digits. Refused only for memory.
-pub(crate) fn is_carrier_specific(m: &Territory, digits: &str) -> Result<bool, AllocError>
+pub(crate) fn is_carrier_specific(m: &Territory, digits: &Subject<'_>) -> Result<bool, AllocError>
     ensures { IfOk result (λ b. b ≡ is_carrier_specific m.now digits.now) }
 {
     has_number(m.descriptors().carrier(), digits)

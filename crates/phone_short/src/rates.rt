@@ -4,6 +4,7 @@ ghost use Rattle.phone_short.specs.Costs.{cost_in, cost_word, otherwise};
 
 use crate::emergency::is_emergency_number;
 use crate::numbers::{has_number, is_possible};
+use phone_pattern::Subject;
 use phone_territory::Territory;
 use std::alloc::AllocError;
 
@@ -34,13 +35,13 @@ impl Cost {
     }
 }
 
-/// The cost of digits: that of the first descriptor that has them, of premium rate, standard rate
-/// and toll free; without one an emergency number is free. Unknown for all others, and where the
+/// The cost of digits by a record: that of the first descriptor that has them, of premium rate,
+/// standard rate and toll free; without one an emergency number is free. Unknown for all others, and where the
 /// digits aren't possible. Refused only for memory.
-pub(crate) fn cost_in(m: &Territory, digits: &str) -> Result<Cost, AllocError>
+pub fn cost_in(m: &Territory, digits: &Subject<'_>) -> Result<Cost, AllocError>
     ensures { IfOk result (λ cost. cost ≡ cost_in m.now digits.now) }
 {
-    if !is_possible(m, digits) {
+    if !is_possible(m, digits.as_str()) {
         return Ok(Cost::Unknown);
     }
     let kinds = m.descriptors();
@@ -57,10 +58,10 @@ pub(crate) fn cost_in(m: &Territory, digits: &str) -> Result<Cost, AllocError>
 }
 
 /// The cost of digits that no descriptor of a cost has. Refused only for memory.
-fn otherwise(m: &Territory, digits: &str) -> Result<Cost, AllocError>
+fn otherwise(m: &Territory, digits: &Subject<'_>) -> Result<Cost, AllocError>
     ensures { IfOk result (λ cost. cost ≡ otherwise m.now digits.now) }
 {
-    if is_emergency_number(m, digits)? {
+    if is_emergency_number(m, digits.as_str())? {
         Ok(Cost::TollFree)
     } else {
         Ok(Cost::Unknown)

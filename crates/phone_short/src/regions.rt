@@ -7,6 +7,7 @@ use crate::emergency::{is_emergency_in, reaches_emergency_in};
 use crate::kind::{ShortKind, kind_in};
 use crate::numbers;
 use crate::rates::{Cost, cost_in};
+use phone_pattern::Subject;
 use phone_plans::Plans;
 use phone_values::country::Id;
 use std::alloc::AllocError;
@@ -33,7 +34,7 @@ pub fn is_valid_short(db: &Plans, region: Id, text: &str) -> Result<bool, AllocE
         return Ok(false);
     };
     let digits = digits_in(db.allocator(), text)?;
-    numbers::is_valid(m, digits.as_str())
+    numbers::is_valid(m, &Subject::of(digits.as_str()))
 }
 
 /// What a call of a text's digits costs in a region: of premium rate, standard rate and toll free
@@ -46,7 +47,7 @@ pub fn cost(db: &Plans, region: Id, text: &str) -> Result<Cost, AllocError>
         return Ok(Cost::Unknown);
     };
     let digits = digits_in(db.allocator(), text)?;
-    cost_in(m, digits.as_str())
+    cost_in(m, &Subject::of(digits.as_str()))
 }
 
 /// Whether only some carriers of a region connect a text's digits: the carriers' descriptor has
@@ -58,7 +59,7 @@ pub fn is_carrier_specific(db: &Plans, region: Id, text: &str) -> Result<bool, A
         return Ok(false);
     };
     let digits = digits_in(db.allocator(), text)?;
-    numbers::is_carrier_specific(m, digits.as_str())
+    numbers::is_carrier_specific(m, &Subject::of(digits.as_str()))
 }
 
 /// Whether a text is an emergency number of a region: the first of its plus signs and digits is a

@@ -1,12 +1,9 @@
 //! Short numbers by the records of the regions of a calling code: each region's is looked up once,
 //! and what is asked of it is asked of digits that were read before.
-ghost use Rattle.std.specs.Prelude.{◌≡◌, ◌==◌, ◌∷◌, ◌++◌, [], IfOk, Some, map};
+ghost use Rattle.std.specs.Prelude.{◌≡◌, ◌∷◌, ◌++◌, [], IfOk, map};
 ghost use Rattle.std.specs.List.{list_any};
 ghost use Rattle.std.specs.Option.{option_and_then, option_copied};
 ghost use Rattle.phone_plans.specs.CodeLookUps.{territories};
-ghost use Rattle.phone_short.specs.Costs as costs;
-ghost use Rattle.phone_short.specs.Emergencies.{is_emergency_number};
-ghost use Rattle.phone_short.specs.Numbers as numbers;
 ghost use Rattle.phone_short_questions.specs.ShortNumbers.{dearest_of, held, is_valid_by};
 ghost use Rattle.phone_short_questions.specs.ShortNumbers.{short_record};
 ghost use Rattle.phone_short_questions.specs.ShortRecords.{chosen_by, cost_by, first_code};
@@ -16,8 +13,8 @@ ghost use Rattle.phone_short_questions.specs.ShortRecords.{short_records};
 
 use crate::rows::Rows;
 use phone_pattern::Subject;
-use phone_plans::{Descriptor, Plans, Territory};
-use phone_short::Cost;
+use phone_plans::{Plans, Territory};
+use phone_short::{Cost, cost_in, has_number, is_possible};
 use phonenumber::PhoneNumber;
 use std::alloc::AllocError;
 
@@ -80,20 +77,6 @@ pub fn is_possible_by(row: Option<&Territory>, digits: &str) -> bool
     }
 }
 
-/// Whether the general descriptor of a record lists the count of digits.
-fn is_possible(m: &Territory, digits: &str) -> bool
-    ensures { result ≡ numbers.is_possible m.now digits.now }
-{
-    lists(m.descriptors().general().possible_length(), digits.len())
-}
-
-/// Whether a count of digits is listed.
-fn lists(lengths: &[u16], count: usize) -> bool
-    ensures { result ≡ list_any (λ n. n == count) lengths.now }
-{
-    lengths.iter().any(|n| usize::from(*n) == count)
-}
-
 /// What digits cost by these records: the first there is of premium rate, an unknown cost, standard
 /// rate and nothing; unknown without a record. Refused only for memory.
 pub(crate) fn dearest_by(
@@ -120,70 +103,6 @@ pub fn cost_by(row: Option<&Territory>, digits: &Subject<'_>) -> Result<Cost, Al
         Some(m) => cost_in(m, digits),
         None => Ok(Cost::Unknown),
     }
-}
-
-/// What digits cost by a record that is there. Refused only for memory.
-fn cost_in(m: &Territory, digits: &Subject<'_>) -> Result<Cost, AllocError>
-    ensures { IfOk result (λ c. c ≡ costs.cost_in m.now digits.now) }
-{
-    if !is_possible(m, digits.as_str()) {
-        return Ok(Cost::Unknown);
-    }
-    let kinds = m.descriptors();
-    if has_number(kinds.premium_rate(), digits)? {
-        return Ok(Cost::PremiumRate);
-    }
-    if has_number(kinds.standard_rate(), digits)? {
-        return Ok(Cost::StandardRate);
-    }
-    if has_number(kinds.toll_free(), digits)? {
-        return Ok(Cost::TollFree);
-    }
-    otherwise(m, digits)
-}
-
-/// What digits cost that no descriptor of a cost has. Refused only for memory.
-fn otherwise(m: &Territory, digits: &Subject<'_>) -> Result<Cost, AllocError>
-    ensures { IfOk result (λ c. c ≡ costs.otherwise m.now digits.now) }
-{
-    if is_emergency_number(m, digits)? {
-        Ok(Cost::TollFree)
-    } else {
-        Ok(Cost::Unknown)
-    }
-}
-
-/// Whether the pattern of a record's emergency numbers matches all of the digits. Refused only for
-/// memory.
-fn is_emergency_number(m: &Territory, digits: &Subject<'_>) -> Result<bool, AllocError>
-    ensures { IfOk result (λ b. b ≡ is_emergency_number m.now digits.now) }
-{
-    match m.descriptors().emergency() {
-        Some(descriptor) => descriptor.pattern().is_whole_match_in(digits),
-        None => Ok(false),
-    }
-}
-
-/// Whether a descriptor is there and has the digits. Refused only for memory.
-fn has_number(descriptor: Option<&Descriptor>, digits: &Subject<'_>) -> Result<bool, AllocError>
-    ensures { IfOk result (λ b. b ≡
-        numbers.has_number (option_copied descriptor.entry) digits.now) }
-{
-    match descriptor {
-        Some(descriptor) => has_digits(descriptor, digits),
-        None => Ok(false),
-    }
-}
-
-/// Whether a descriptor allows the count of the digits, and its pattern matches all of them.
-/// Refused only for memory.
-fn has_digits(descriptor: &Descriptor, digits: &Subject<'_>) -> Result<bool, AllocError>
-    ensures { IfOk result (λ b. b ≡ numbers.has_number (Some descriptor.now) digits.now) }
-{
-    if !descriptor.allows_length(digits.as_str().len()) {
-        return Ok(false);
-    }
-    descriptor.pattern().is_whole_match_in(digits)
 }
 
 /// Of two costs, or of the second alone, the first there is of premium rate, an unknown cost,

@@ -1,11 +1,12 @@
 //! SMS services.
-ghost use Rattle.std.specs.Prelude.{◌≡◌, IfOk, Some};
-ghost use Rattle.phone_short.specs.Numbers.{has_number};
+ghost use Rattle.std.specs.Prelude.{◌≡◌, IfOk};
 ghost use Rattle.phone_short_questions.specs.Services.{has_service, is_of_code, is_sms_service};
 ghost use Rattle.phone_short_questions.specs.Services.{territory_with};
 ghost use Rattle.std.specs.Option.{option_copied};
 
-use phone_plans::{Descriptor, Plans, Territory};
+use phone_pattern::Subject;
+use phone_plans::{Plans, Territory};
+use phone_short::has_number;
 use phone_values::country::Id;
 use phonenumber::PhoneNumber;
 use std::alloc::AllocError;
@@ -49,18 +50,7 @@ fn has_service(sms: &Plans, region: Id, digits: &str) -> Result<bool, AllocError
     ensures { IfOk result (λ b. b ≡ has_service sms.now region digits.now) }
 {
     match sms.by_id(region.as_str()) {
-        Some(record) => has_number(record.descriptors().general(), digits),
+        Some(record) => has_number(Some(record.descriptors().general()), &Subject::of(digits)),
         None => Ok(false),
     }
-}
-
-/// Whether a descriptor allows the count of the digits, and its pattern matches all of them.
-/// Refused only for memory.
-fn has_number(descriptor: &Descriptor, digits: &str) -> Result<bool, AllocError>
-    ensures { IfOk result (λ b. b ≡ has_number (Some descriptor.now) digits.now) }
-{
-    if !descriptor.allows_length(digits.len()) {
-        return Ok(false);
-    }
-    descriptor.pattern().is_whole_match(digits)
 }
