@@ -21,19 +21,25 @@ pub fn answer(alloc: Global, row: &Row, db: &Database) -> Result<Option<String>>
         return Ok(Some(format!(in alloc; "error {error}")?));
     }
     let n = number(alloc, row, db, 2)?;
+    let text = written(alloc, row, db, &n)?;
+    Ok(Some(shown(alloc, Some(text.as_str()))?))
+}
+
+/// A number as a line's question writes it.
+fn written(alloc: Global, row: &Row, db: &Database, n: &PhoneNumber) -> Result<String> {
     let (raw, word) = (raw(row), row.argument(4));
     let text = match row.argument(1) {
-        "print" => text_in(db, mode(word)?, raw, &n)?,
-        "mobile" => mobile_text(db, word, row.argument(5) == "yes", raw, &n)?,
-        "dialled" => dialled_text(db, region(word), raw, &n)?,
-        "own-mobile" => mobile_text_in(db, word, row.argument(5) == "yes", &n)?,
-        "own-by-layouts" => by_own_layouts(alloc, row, db, &n)?,
-        "letters" => text_with_letters(db, region(word), raw, &n)?,
-        "own-letters" => dialled_with_letters(db, region(word), raw, &n)?,
-        "by-layouts" => by_layouts(alloc, row, db, &n)?,
-        _ => original_text(db, region(word), raw, &n)?,
+        "print" => text_in(db, mode(word)?, raw, n),
+        "mobile" => mobile_text(db, word, row.argument(5) == "yes", raw, n),
+        "dialled" => dialled_text(db, region(word), raw, n),
+        "own-mobile" => mobile_text_in(db, word, row.argument(5) == "yes", n),
+        "letters" => text_with_letters(db, region(word), raw, n),
+        "own-letters" => dialled_with_letters(db, region(word), raw, n),
+        "own-by-layouts" => return by_own_layouts(alloc, row, db, n),
+        "by-layouts" => return by_layouts(alloc, row, db, n),
+        _ => original_text(db, region(word), raw, n),
     };
-    Ok(Some(shown(alloc, Some(text.as_str()))?))
+    Ok(text?)
 }
 
 /// Whether this question is one of these.

@@ -33,26 +33,53 @@ pub fn answer(alloc: Global, row: &Row, db: &Database) -> Result<Option<String>>
 /// The answer to a line whose question is of a number; none for any other question.
 fn of_number(alloc: Global, row: &Row, db: &Database) -> Result<Option<String>> {
     let n = number(alloc, row, db, 2)?;
+    if let Some(found) = alone(alloc, row, db, &n)? {
+        return Ok(Some(found));
+    }
+    beside(alloc, row, db, &n)
+}
+
+/// The answer to a question of a number alone; none for any other question.
+fn alone(alloc: Global, row: &Row, db: &Database, n: &PhoneNumber) -> Result<Option<String>> {
     let answer = match row.argument(1) {
-        "valid-for" => yes(alloc, is_valid_for(db, row.argument(4), &n)?),
-        "from-abroad" => yes(alloc, is_dialled_from_abroad(db, &n)?),
-        "own-from-abroad" => yes(alloc, reaches_from_abroad(db, &n)?),
-        "geographical" => yes(alloc, is_geographical(db, &n)?),
-        "possible" => verdict(alloc, db, Type::Unknown, &n),
-        "possible-kind" => verdict(alloc, db, kind(row.argument(4))?, &n),
-        "own-possible-kind" => own_verdict(alloc, db, kind(row.argument(4))?, &n),
-        "destination-length" => count(alloc, destination_length(db, &n)?),
-        "area-length" => count(alloc, area_length(db, &n)?),
-        "truncate" => cut(alloc, db, &n),
-        "carrier" => Ok(national_with_carrier(db, carrier(row), &n)?),
-        "preferred" => Ok(national_with_preferred_carrier(db, carrier(row), &n)?),
-        "match" => match_words(alloc, &n, &number(alloc, row, db, 4)?),
-        "own-match" => own_match(alloc, &n, &number(alloc, row, db, 4)?),
-        "match-text" => match_word(alloc, match_text(db, &n, row.argument(4))?),
-        "own-match-text" => own_match_text(alloc, db, &n, row.argument(4)),
+        "valid-for" => yes(alloc, is_valid_for(db, row.argument(4), n)?),
+        "from-abroad" => yes(alloc, is_dialled_from_abroad(db, n)?),
+        "own-from-abroad" => yes(alloc, reaches_from_abroad(db, n)?),
+        "geographical" => yes(alloc, is_geographical(db, n)?),
+        "possible" => verdict(alloc, db, Type::Unknown, n),
+        "possible-kind" => verdict(alloc, db, kind(row.argument(4))?, n),
+        "own-possible-kind" => own_verdict(alloc, db, kind(row.argument(4))?, n),
+        "destination-length" => count(alloc, destination_length(db, n)?),
+        "area-length" => count(alloc, area_length(db, n)?),
         _ => return Ok(None),
     };
     Ok(Some(answer?))
+}
+
+/// The answer to a question of what becomes of a number, or of what it is beside another; none for
+/// any other question.
+fn beside(alloc: Global, row: &Row, db: &Database, n: &PhoneNumber) -> Result<Option<String>> {
+    let answer = match row.argument(1) {
+        "truncate" => cut(alloc, db, n),
+        "carrier" => with_carrier(db, carrier(row), n),
+        "preferred" => with_preferred(db, carrier(row), n),
+        "match" => match_second(alloc, row, db, n),
+        "own-match" => own_match(alloc, row, db, n),
+        "match-text" => match_second_text(alloc, db, n, row.argument(4)),
+        "own-match-text" => own_match_text(alloc, db, n, row.argument(4)),
+        _ => return Ok(None),
+    };
+    Ok(Some(answer?))
+}
+
+/// The national text with a carrier.
+fn with_carrier(db: &Database, carrier: &str, n: &PhoneNumber) -> Result<String> {
+    Ok(national_with_carrier(db, carrier, n)?)
+}
+
+/// The national text with the number's own carrier, or this one.
+fn with_preferred(db: &Database, carrier: &str, n: &PhoneNumber) -> Result<String> {
+    Ok(national_with_preferred_carrier(db, carrier, n)?)
 }
 
 /// What is kept of a line's text: code, digits, extension, source and carrier; or its refusal.
@@ -106,14 +133,21 @@ fn cut(alloc: Global, db: &Database, n: &PhoneNumber) -> Result<String> {
     }
 }
 
-/// How like two numbers are.
-fn match_words(alloc: Global, a: &PhoneNumber, b: &PhoneNumber) -> Result<String> {
-    match_word(alloc, match_of(alloc, a, b)?)
+/// How like a number and the second one of a line are.
+fn match_second(alloc: Global, row: &Row, db: &Database, n: &PhoneNumber) -> Result<String> {
+    let other = number(alloc, row, db, 4)?;
+    match_word(alloc, match_of(alloc, n, &other)?)
 }
 
 /// The same by our own answer.
-fn own_match(alloc: Global, a: &PhoneNumber, b: &PhoneNumber) -> Result<String> {
-    match_word(alloc, match_numbers(alloc, a, b)?)
+fn own_match(alloc: Global, row: &Row, db: &Database, n: &PhoneNumber) -> Result<String> {
+    let other = number(alloc, row, db, 4)?;
+    match_word(alloc, match_numbers(alloc, n, &other)?)
+}
+
+/// How like a number and a text are.
+fn match_second_text(alloc: Global, db: &Database, n: &PhoneNumber, text: &str) -> Result<String> {
+    match_word(alloc, match_text(db, n, text)?)
 }
 
 /// How like a number and a text are, by our own answer.
