@@ -13,7 +13,8 @@ ghost use Rattle.phone_questions.specs.Groups.{area_length, destination_length, 
 ghost use Rattle.phone_questions.specs.Groups.{laid_abroad};
 ghost use Rattle.phone_questions.specs.Belonging.{own_territory};
 ghost use Rattle.phone_questions.specs.declared.matches.NumberMatch.{NumberMatch};
-ghost use Rattle.phone_questions_laws.specs.AreaCodes.{IsBeginning, KeepsDigits, destination_digits};
+ghost use Rattle.phone_questions_laws.specs.AreaCodes.{IsBeginning, KeepsDigits};
+ghost use Rattle.phone_questions_laws.specs.AreaCodes.{destination_digits};
 ghost use Rattle.phone_own_answers.specs.Matches.{match_numbers};
 ghost use Rattle.phone_own_answers.specs.Possible.{possibility_of};
 ghost use Rattle.phone_own_answers.specs.TextMatches.{AreTextsMatch};

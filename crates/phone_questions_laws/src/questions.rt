@@ -1,5 +1,5 @@
-//! What holds of libphonenumber's further questions (`phone_questions`). These functions do nothing;
-//! their contracts are the statements.
+//! What holds of libphonenumber's further questions (`phone_questions`). These functions do
+//! nothing; their contracts are the statements.
 ghost use Rattle.std.specs.Prelude.{◌≡◌, ◌⊎◌, ℕ, List, true, Some};
 ghost use Rattle.phone_values.specs.Validations.{is_possible};
 ghost use Rattle.phone_values.specs.declared.kind.«Type».TheVariants as kind;

@@ -36,8 +36,8 @@ impl Cost {
 }
 
 /// The cost of digits by a record: that of the first descriptor that has them, of premium rate,
-/// standard rate and toll free; without one an emergency number is free. Unknown for all others, and where the
-/// digits aren't possible. Refused only for memory.
+/// standard rate and toll free; without one an emergency number is free. Unknown for all others,
+/// and where the digits aren't possible. Refused only for memory.
 pub fn cost_in(m: &Territory, digits: &Subject<'_>) -> Result<Cost, AllocError>
     ensures { IfOk result (λ cost. cost ≡ cost_in m.now digits.now) }
 {
