@@ -1,9 +1,9 @@
 -- ASCII in the place of ASCII leaves a text UTF-8.
 use Rattle.std.proofs.Common.{◌≡◌, ◌<◌, ◌≤◌, ◌+◌, ◌-◌, ◌++◌, ℕ, zero, suc, List, [], ◌∷◌, length}
 use Rattle.std.proofs.Common.{drop, slice_index, get_or, Option, None, Some, All, refl, sym}
-use Rattle.std.proofs.Common.{ap, ap₂, subst, ◌∙◌, arith, length-append, take_at}
+use Rattle.std.proofs.Common.{ap, ap₂, subst, ◌∙◌, arith, length-append, rules, take, take_at}
 use Rattle.std.proofs.lemmas.List.{append_assoc, append-nil, at_drop_all, at_drop_more, drop_at}
-use Rattle.std.proofs.lemmas.List.{drop-drop, get_or-append-add, get_or-drop}
+use Rattle.std.proofs.lemmas.List.{drop-drop, get_or-append-add, get_or-drop, take-append-drop}
 use Rattle.std.proofs.lemmas.Str.{IsAscii-drop, IsAscii-take, IsCharBoundary-after_ascii}
 use Rattle.std.proofs.lemmas.Str.{IsCharBoundary-before_ascii, IsUtf8-append, IsUtf8-drop}
 use Rattle.std.proofs.lemmas.Str.{IsUtf8-from_ascii, IsUtf8-take}
@@ -20,6 +20,13 @@ digits_ascii text digits = IsAscii-from_all text (λ k d h. let b = digits k d h
 pub all_one : (b : ℕ) → b < 128 → All (λ x. x < 128) (b ∷ [])
 all_one b small zero d h = small
 all_one b small (suc k) d h = absurd (omega (arith, h))
+
+-- a list of three
+pub all_three : (a b c : ℕ) → a < 128 → b < 128 → c < 128 → All (λ x. x < 128) (a ∷ b ∷ c ∷ [])
+all_three a b c p q r zero d h = p
+all_three a b c p q r (suc zero) d h = q
+all_three a b c p q r (suc (suc zero)) d h = r
+all_three a b c p q r (suc (suc (suc k))) d h = absurd (omega (arith, h))
 
 -- what a group spans in ASCII
 pub bytes_ascii : (hay : List ℕ) (group : Option (ℕ × ℕ)) → IsAscii hay → IsAscii (bytes_of hay group)
@@ -47,6 +54,15 @@ ascii_for before more after b small ascii whole =
     plus_none : (n : ℕ) → n ≡ n + 0
     plus_none n = omega arith
 
+-- ASCII in the place of a byte of ASCII and a run of it
+run_for : (run before more after : List ℕ) (b : ℕ) → b < 128 → IsAscii run → IsAscii more →
+    IsUtf8 (before ++ b ∷ (run ++ after)) → IsUtf8 ((before ++ more) ++ after)
+run_for [] before more after b small of ascii whole = ascii_for before more after b small ascii whole
+run_for (c ∷ run) before more after b small of ascii whole =
+    run_for run before more after c (of 0) (IsAscii-drop (c ∷ run) 1 of) ascii
+    (subst (λ xs. IsUtf8 (xs ++ c ∷ (run ++ after))) (append-nil before)
+    (ascii_for before [] (c ∷ (run ++ after)) b small IsAscii-nil whole))
+
 module _ (t : List ℕ) where
   -- a byte of a template that is written as it is
   pub byte_utf8 : (at : ℕ) (out : List ℕ) → at < length t → IsUtf8 (out ++ drop at t) →
@@ -73,6 +89,20 @@ module _ (t : List ℕ) where
       (subst (λ xs. IsUtf8 (xs ++ b ∷ drop (at + 2) t)) (append-nil out)
       (ascii_for out [] (b ∷ drop (at + 2) t) 36 (omega arith) IsAscii-nil
       (subst (λ r. IsUtf8 (out ++ r)) both whole)))
+
+  -- ASCII in the place of a `$` and a run of ASCII behind it
+  pub run_utf8 : (at k : ℕ) (out more : List ℕ) → at < length t → slice_index t at ≡ 36 →
+      IsAscii (take k (drop (at + 1) t)) → IsAscii more → IsUtf8 (out ++ drop at t) →
+      IsUtf8 ((out ++ more) ++ drop (at + (1 + k)) t)
+  run_utf8 at k out more inside dollar of ascii whole =
+      let r = drop (at + 1) t in
+      let here : drop at t ≡ 36 ∷ r = at_drop_more (λ xs. xs) t at 0 inside ∙ ap (λ c. c ∷ r) dollar in
+      let plus : at + 1 + k ≡ at + (1 + k) = omega arith in
+      let next : drop k r ≡ drop (at + (1 + k)) t = drop-drop k (at + 1) t ∙ ap (λ i. drop i t) plus in
+      subst (λ xs. IsUtf8 ((out ++ more) ++ xs)) next
+      (run_for (take k r) out more (drop k r) 36 (omega arith) of ascii
+      (subst (λ xs. IsUtf8 (out ++ 36 ∷ xs)) (sym (take-append-drop k r))
+      (subst (λ xs. IsUtf8 (out ++ xs)) here whole)))
 
   -- at the end of the template all is written
   pub all_utf8 : (at : ℕ) (out : List ℕ) → length t ≤ at → IsUtf8 (out ++ drop at t) → IsUtf8 out

@@ -1,8 +1,9 @@
 -- What a template writes in the place of a match, by the cells that a search has filled.
-use Rattle.std.specs.Prelude.{◌≡◌, ◌≤◌, ◌+◌, ◌*◌, ◌++◌, ℕ, List, Option, None, Some, drop, length}
-use Rattle.std.specs.Prelude.{slice_set, take}
+use Rattle.std.specs.Prelude.{◌≡◌, ◌<◌, ◌≤◌, ◌+◌, ◌*◌, ◌++◌, ◌∷◌, [], ℕ, List, Option, None}
+use Rattle.std.specs.Prelude.{Some, drop, length, slice_index, slice_set, take}
+use Rattle.std.specs.Str.{IsAscii}
 use Rattle.regex.specs.Replace.{bytes_of}
-use Rattle.regex.specs.Templates.{written_after}
+use Rattle.regex.specs.Templates.{name_at, written_after}
 use Rattle.regex_hir.specs.Find.{Match}
 use Rattle.regex_syntax.specs.Grammar.{Names}
 use Rattle.phone_automaton.specs.Finds.{group, group_at}
@@ -30,3 +31,11 @@ abbrev pub IsWritten : List ℕ → List ℕ → ℕ × ℕ → List ℕ → Lis
 IsWritten template hay span cells bytes =
     (names : Names) (text_of : ℕ → List ℕ) → AreTexts hay span cells text_of →
     bytes ≡ written_after names text_of template 0
+
+-- behind a `$` so many bytes, all of ASCII, name a group by its digit
+pub record IsNamedBy (rest : List ℕ) (n count : ℕ) : Type 0 where
+  pub small : n < 10
+  pub inside : count ≤ length rest
+  pub ascii : IsAscii (take count rest)
+  pub single : ¬ (slice_index rest 0 ≡ 36)
+  pub name : name_at rest ≡ Some ((48 + n) ∷ [], count)

@@ -157,7 +157,7 @@ impl Automaton {
     /// The text with its match at the front, which ends here, replaced by a template, in which `$1`
     /// stands for the first group; no search is made, and nothing kept. None where the pattern is
     /// no sequence of groups of fixed lengths but the last, and where the template names a group in
-    /// another way than by one digit. Refused only for memory.
+    /// another way than by one digit, in braces or not. Refused only for memory.
     pub fn replace_at_front(
         &self,
         alloc: Global,

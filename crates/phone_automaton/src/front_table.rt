@@ -90,8 +90,8 @@ impl FrontTable {
 
     /// The text with its match at the front, which ends here, replaced by a template, in which `$1`
     /// stands for the first group. None where the pattern is no sequence of groups of fixed lengths
-    /// but the last, and where the template names a group in another way than by one digit. Refused
-    /// only for memory.
+    /// but the last, and where the template names a group in another way than by one digit, in
+    /// braces or not. Refused only for memory.
     pub fn replace_at_front(
         &self,
         alloc: Global,

@@ -289,8 +289,8 @@ impl Machine {
 
     /// The text with its first match replaced by a template, in which `$1` stands for the first
     /// group; a text without a match as it is. None where the automaton gives up, or the template
-    /// names a group in another way than by one digit, or a group that the pattern doesn't have.
-    /// Refused only for memory.
+    /// names a group in another way than by one digit, in braces or not, or a group that the
+    /// pattern doesn't have. Refused only for memory.
     pub fn replace(
         &mut self,
         alloc: Global,

@@ -174,7 +174,7 @@ pub(crate) fn find_groups(
 
 /// The text with its match at the front, which ends here, replaced by a template, by the cells of
 /// such matches. None where the groups aren't known by the match's end, or the template names a
-/// group in another way than by one digit. Refused only for memory.
+/// group in another way than by one digit, in braces or not. Refused only for memory.
 pub(crate) fn replace_by_cells(
     alloc: Global,
     front: &[usize],

@@ -1,13 +1,13 @@
 //! Writing a template in the place of a match. Served are the templates in which each `$` is
-//! followed by a `$`, which then stands for itself, or by the one digit that names a group; any
-//! other is left to a library.
+//! followed by a `$`, which then stands for itself, or by the one digit that names a group, in
+//! braces or not; any other is left to a library.
 ghost use Rattle.std.specs.Prelude.{◌≡◌, ◌+◌, ◌*◌, ◌≤◌, ◌<◌, ◌++◌, ◌^◌, length, drop, take};
 ghost use Rattle.std.specs.Prelude.{slice_index, string_bytes, IfOk, IfSome, IsTrue, MatchOption};
 ghost use Rattle.std.specs.List.{prefix_len};
 ghost use Rattle.std.specs.Str.{IsAscii, IsUtf8};
 ghost use Rattle.phone_automaton.specs.Digits.{AreDigits};
 ghost use Rattle.phone_automaton.specs.Finds.{group_at};
-ghost use Rattle.phone_automaton.specs.Templates.{IsWritten, put_in};
+ghost use Rattle.phone_automaton.specs.Templates.{IsNamedBy, IsWritten, put_in};
 ghost use Rattle.regex.specs.Replace.{bytes_of};
 ghost use Rattle.regex.specs.Templates.{is_name_byte};
 
@@ -38,9 +38,9 @@ fn is_doubled(rest: &[u8]) -> bool
     !rest.is_empty() && rest[0] == b'$'
 }
 
-/// The group that a `$` names before these bytes, where one digit names it that neither a letter, a
-/// digit nor `_` follows.
-fn group_named(rest: &[u8]) -> Option<usize>
+/// The group that one digit names before these bytes, where neither a letter, a digit nor `_`
+/// follows it.
+fn digit_alone(rest: &[u8]) -> Option<usize>
     ensures digit { IfSome result (λ n. (n < 10) × (0 < length rest.now) ×
         (slice_index rest.now 0 ≡ 48 + n)) }
     ensures alone { IfSome result (λ n. prefix_len is_name_byte rest.now ≡ 1) }
@@ -52,6 +52,42 @@ fn group_named(rest: &[u8]) -> Option<usize>
         return None;
     }
     Some((rest[0] - b'0') as usize)
+}
+
+/// The group that one digit in braces names before these bytes.
+fn digit_in_braces(rest: &[u8]) -> Option<usize>
+    ensures { IfSome result (λ n. (n < 10) × (2 < length rest.now) ×
+        (slice_index rest.now 0 ≡ 123) × (slice_index rest.now 1 ≡ 48 + n) ×
+        (slice_index rest.now 2 ≡ 125)) }
+{
+    if rest.len() < 3 || rest[0] != b'{' || rest[2] != b'}' {
+        return None;
+    }
+    if !rest[1].is_ascii_digit() {
+        return None;
+    }
+    Some((rest[1] - b'0') as usize)
+}
+
+/// The group that a `$` names before these bytes, and how many of them name it: one digit that
+/// neither a letter, a digit nor `_` follows, or one in braces.
+fn group_named(rest: &[u8]) -> Option<(usize, usize)>
+    ensures { IfSome result (λ r. IsNamedBy rest.now r.0 r.1) }
+{
+    match digit_alone(rest) {
+        Some(n) => Some((n, 1)),
+        None => named_in_braces(rest),
+    }
+}
+
+/// The same where it is a digit in braces.
+fn named_in_braces(rest: &[u8]) -> Option<(usize, usize)>
+    ensures { IfSome result (λ r. IsNamedBy rest.now r.0 r.1) }
+{
+    match digit_in_braces(rest) {
+        Some(n) => Some((n, 3)),
+        None => None,
+    }
 }
 
 /// Appends what a group spans, or nothing where it took no part in the match. False where the span
@@ -103,7 +139,7 @@ fn group_in(span: (usize, usize), cells: &[usize], place: usize, n: usize) -> Op
 }
 
 /// Appends what a template writes where a match stands. False where the template names a group in
-/// another way than by one digit, or one that the cells have no room for.
+/// another way than by one digit, in braces or not, or one that the cells have no room for.
 fn push_written(
     out: &mut Vec<u8>,
     template: &[u8],
@@ -132,7 +168,7 @@ fn push_written(
             at += 2;
             continue;
         }
-        let Some(n) = group_named(rest) else {
+        let Some((n, count)) = group_named(rest) else {
             return Ok(false);
         };
         if 2 * n > cells.len() {
@@ -141,7 +177,7 @@ fn push_written(
         if !push_group(out, hay, group_in(span, cells, place, n))? {
             return Ok(false);
         }
-        at += 2;
+        at += 1 + count;
     }
     Ok(true)
 }

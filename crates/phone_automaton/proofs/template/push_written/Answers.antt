@@ -1,12 +1,12 @@
-use Rattle.std.proofs.Common.{◌≡◌, ◌<◌, ◌+◌, ◌*◌, ◌≤◌, ◌++◌, ◌∷◌, ℕ, List, [], ap, arith, length, refl, sym, ◌∙◌}
+use Rattle.std.proofs.Common.{◌≡◌, ◌<◌, ◌+◌, ◌*◌, ◌≤◌, ◌++◌, ◌∷◌, ℕ, List, [], ◌-◌, ap, arith, drop, length, refl, subst, sym, ◌∙◌}
 use Rattle.std.proofs.lemmas.List.{append_cancel_left, length-drop, length-set}
 use Rattle.regex.specs.Replace.{bytes_of}
 use Rattle.regex.specs.Templates.{written_after}
 use Rattle.regex_syntax.specs.Grammar.{Names}
 use Rattle.phone_automaton.specs.Finds.{group_at}
-use Rattle.phone_automaton.specs.Templates.{AreTexts, put_in}
-use Rattle.phone_automaton.proofs.Writing.{all_on, byte_on, dollar_on, group_on}
-use Rattle.phone_automaton.proofs.Ascii.{all_one, all_utf8, byte_utf8, bytes_ascii, two_utf8}
+use Rattle.phone_automaton.specs.Templates.{AreTexts, IsNamedBy, put_in}
+use Rattle.phone_automaton.proofs.Writing.{all_on, byte_on, dollar_on, named_on}
+use Rattle.phone_automaton.proofs.Ascii.{all_one, all_utf8, byte_utf8, bytes_ascii, run_utf8, two_utf8}
 use Rattle.std.proofs.lemmas.Str.Ascii.{IsAscii-from_all}
 use Rattle.phone_automaton.proofs.template.push_written.Goals as goal
 
@@ -34,21 +34,20 @@ loop-at-preserved-then-is_doubled c =
 pub loop-at-preserved : goal.loop-at-preserved
 loop-at-preserved c =
     let t = c.args.template.now in
-    let (small, more, digit) = rw c.after-rest.ensures at c.in-Some.ensures.digit in
-    let alone = rw c.after-rest.ensures at c.in-Some.ensures.alone in
+    let is : IsNamedBy (drop (c.loop-at.at + 1) t) c.in-Some.n c.in-Some.count = subst (λ r. IsNamedBy r c.in-Some.n c.in-Some.count) c.after-rest.ensures c.in-Some.ensures in
     let room : 2 * c.in-Some.n ≤ length c.args.cells.now = c.if-n-cells.false in
     let here : c.loop-at.at < length t = c.loop-at-test.true in
-    let inside : c.loop-at.at + 1 < length t = (let left = rw length-drop at more in omega arith) in
     let cells = put_in c.args.cells.now c.args.place c.args.span.1 in
-    let fits : 2 * c.in-Some.n ≤ length cells = rw (length-set c.args.cells.now c.args.place (c.args.span.1 + 1)) room in (
+    let fits : 2 * c.in-Some.n ≤ length cells = rw (length-set c.args.cells.now c.args.place (c.args.span.1 + 1)) room in
+    let left : c.in-Some.count ≤ length t - (c.loop-at.at + 1) = subst (λ l. c.in-Some.count ≤ l) (length-drop (c.loop-at.at + 1) t) is.inside in (
       omega arith,
       λ names text_of texts.
           rw (c.in_ok-push_group.ensures c.if-not-branch.false)
-          (group_on names text_of t c.loop-at.at c.in-Some.n c.loop-at.out.items _ _ inside c.if-template-at-ne36.false small digit alone
+          (named_on names text_of t c.loop-at.at c.in-Some.n c.in-Some.count c.loop-at.out.items _ _ here c.if-template-at-ne36.false is
           (ap (bytes_of c.args.hay.now) c.group_in.ensures ∙ sym (texts c.in-Some.n fits))
           (c.loop-at.invariant.1 names text_of texts)),
       λ ascii whole. rw (c.in_ok-push_group.ensures c.if-not-branch.false)
-          (two_utf8 t c.loop-at.at (48 + c.in-Some.n) c.loop-at.out.items _ inside c.if-template-at-ne36.false digit (omega (arith, small)) (bytes_ascii c.args.hay.now c.group_in.result ascii)
+          (run_utf8 t c.loop-at.at c.in-Some.count c.loop-at.out.items _ here c.if-template-at-ne36.false is.ascii (bytes_ascii c.args.hay.now c.group_in.result ascii)
           (c.loop-at.invariant.2 ascii whole)),
     )
 
