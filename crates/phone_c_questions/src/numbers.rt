@@ -11,10 +11,7 @@ use phone_c_base::asked::kind_of;
 use phone_c_base::number::{Number, bare};
 use phone_c_base::status::{BAD_NUMBER, MEMORY, NO_KIND, NOT_UTF8, OK};
 use phone_plans::Plans;
-use phone_questions::{
-    area_length, destination_length, is_dialled_from_abroad, is_geographical, is_geographical_kind,
-    is_valid_for, possibility_as,
-};
+use phone_questions::{details_of, is_geographical_kind, is_valid_for, possibility_as};
 use phone_values::Validation;
 use phonenumber::PhoneNumber;
 use std::alloc::AllocError;
@@ -37,11 +34,12 @@ pub struct NumberFacts {
 fn number_facts(database: &Plans, number: &PhoneNumber) -> Result<NumberFacts, AllocError>
     ensures { IfOk result (λ facts. facts ≡ number_facts database.now number.now) }
 {
+    let told = details_of(database, number)?;
     Ok(NumberFacts {
-        area_length: area_length(database, number)?,
-        destination_length: destination_length(database, number)?,
-        is_geographical: flag(is_geographical(database, number)?),
-        is_dialled_from_abroad: flag(is_dialled_from_abroad(database, number)?),
+        area_length: told.area_length,
+        destination_length: told.destination_length,
+        is_geographical: flag(told.is_geographical),
+        is_dialled_from_abroad: flag(told.is_dialled_from_abroad),
     })
 }
 
@@ -118,13 +116,8 @@ pub fn possibility_of_kind(database: &Plans, kind: u32, number: &Number, told: &
     let Some(number) = bare(number) else {
         return BAD_NUMBER;
     };
-    match possibility_as(database, kind, &number) {
-        Ok(verdict) => {
-            *told = validation_number(verdict);
-            OK
-        }
-        Err(_) => MEMORY,
-    }
+    *told = validation_number(possibility_as(database, kind, &number));
+    OK
 }
 
 /// Whether numbers of a kind are of a place under a calling code: 1, else 0.

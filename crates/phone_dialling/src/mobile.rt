@@ -12,9 +12,9 @@ ghost use Rattle.phone_rules.specs.Kinds.{is_known};
 ghost use Rattle.phone_values.specs.Numbers.{text_of};
 
 use crate::texts::{text_in, without_extension};
-use phone_library::{length_in, number_type};
+use phone_library::{facts, length_in};
 use phone_plans::{Plans, Territory};
-use phone_questions::{diallable_only, is_dialled_from_abroad, national_with_carrier};
+use phone_questions::{diallable_only, is_dialled_by_region, national_with_carrier};
 use phone_values::{Mode, Type, Validation};
 use phonenumber::PhoneNumber;
 use std::alloc::{AllocError, Global};
@@ -74,12 +74,12 @@ fn mobile_way(
 ) -> Result<MobileWay, AllocError>
     ensures { IfOk result (λ way. way ≡ mobile_way database.now id.now number.now m.now) }
 {
-    let kind = number_type(database, number)?;
-    let far = is_dialled_from_abroad(database, number)?;
+    let told = facts(database, number)?;
+    let far = is_dialled_by_region(database, told.region, number)?;
     if m.id() == id {
-        way_at_home(m, kind, far, number)
+        way_at_home(m, told.kind, far, number)
     } else {
-        Ok(way_elsewhere(kind, far))
+        Ok(way_elsewhere(told.kind, far))
     }
 }
 

@@ -46,11 +46,11 @@ fn is_possible_count(verdict: Validation) -> bool
     )
 }
 
-/// Whether a number is possible by the lengths of its main territory. Refused only for memory.
-fn is_possible(db: &Plans, number: &PhoneNumber) -> Result<bool, AllocError>
-    ensures { IfOk result (λ b. b ≡ is_possible db.now number.now) }
+/// Whether a number is possible by the lengths of its main territory.
+fn is_possible(db: &Plans, number: &PhoneNumber) -> bool
+    ensures { result ≡ is_possible db.now number.now }
 {
-    Ok(is_possible_count(possibility_as(db, Type::Unknown, number)?))
+    is_possible_count(possibility_as(db, Type::Unknown, number))
 }
 
 /// Whether a number is valid, its `x` announce what they should, and it has the national prefix
@@ -116,7 +116,7 @@ pub(crate) fn suffices(
         (chars text.now) leniency) }
 {
     match leniency {
-        Leniency::Possible => is_possible(db, number),
+        Leniency::Possible => Ok(is_possible(db, number)),
         Leniency::Valid => is_valid_in(db, number, text),
         Leniency::StrictGrouping => {
             is_valid_and_grouped(db, alternates, Strictness::Strict, number, text)

@@ -28,7 +28,7 @@ pub fn possibility_of(
         return Ok(Validation::InvalidCountryCode);
     };
     let digits = number.national().to_string(database.allocator())?;
-    verdict_in(kind, digits.len(), territory)
+    Ok(verdict_in(kind, digits.len(), territory))
 }
 
 /// The territory whose lengths tell of a number. Refused only for memory.

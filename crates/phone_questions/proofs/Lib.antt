@@ -1,5 +1,6 @@
 pub mod Cuts
 pub mod GroupLengths
-pub mod Lent
+pub mod Lengths
 pub mod Lettered
 pub mod TextReads
+pub mod Verdicts

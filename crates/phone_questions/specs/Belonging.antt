@@ -3,6 +3,7 @@ use Rattle.std.specs.Prelude.{ℕ, not, Bool, false, List, filter, Option}
 use Rattle.std.specs.List.{find}
 use Rattle.std.specs.Option.{option_and_then, option_map_or}
 use Rattle.phone_values.specs.Numbers.{text_of}
+use Rattle.phone_values.specs.declared.country.Id.{Id}
 use Rattle.phone_values.specs.declared.reading.Reading.{Reading}
 use Rattle.phone_library.specs.Facts.{kind_of_number, region_of_number}
 use Rattle.phone_library.specs.Kinds.{is_number_of, kind_in}
@@ -32,10 +33,15 @@ own_territory db n = option_and_then (territory_of db) (region_of_number db n)
 abbrev pub is_home_number : Reading → Metadata → Bool
 is_home_number n m = is_number_of m.no_international (text_of n.national)
 
--- a number can be dialled from abroad, unless its region's territory says that it is dialled at
--- home alone
+-- a number that has this region can be dialled from abroad, unless the region's territory says that
+-- it is dialled at home alone
+abbrev pub is_dialled_by_region : List Metadata → Option Id → Reading → Bool
+is_dialled_by_region db region n = not (option_map_or (is_home_number n)
+    (option_and_then (territory_of db) region) false)
+
+-- a number can be dialled from abroad, where the territory of its region doesn't say otherwise
 abbrev pub is_dialled_from_abroad : List Metadata → Reading → Bool
-is_dialled_from_abroad db n = not (option_map_or (is_home_number n) (own_territory db n) false)
+is_dialled_from_abroad db n = is_dialled_by_region db (region_of_number db n) n
 
 -- a number is of a place where its kind is
 abbrev pub is_geographical : List Metadata → Reading → Bool

@@ -52,12 +52,17 @@ length_in_groups with_token t =
     else if with_token then length (first_group t) + length (second_group t)
     else length (first_group t)
 
--- how many digits of a number are its national destination code, by the first territory of its code
-abbrev pub destination_length : List Metadata → Reading → ℕ
-destination_length db n = option_map_or
-    (λ m. length_in_groups (has_token (kind_of_number db n) n.code.value)
+-- how many digits of a number of a kind are its national destination code, by the first territory
+-- of its code
+abbrev pub destination_by : List Metadata → «Type» → Reading → ℕ
+destination_by db kind n = option_map_or
+    (λ m. length_in_groups (has_token kind n.code.value)
     (chars (laid_abroad m (text_of n.national))))
     (first_of (territories n.code.value db)) 0
+
+-- the same of a number, which is of the kind that its territory tells
+abbrev pub destination_length : List Metadata → Reading → ℕ
+destination_length db n = destination_by db (kind_of_number db n) n
 
 -- a mobile number
 abbrev pub is_mobile : «Type» → Bool

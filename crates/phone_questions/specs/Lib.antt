@@ -1,5 +1,6 @@
 pub mod Belonging
 pub mod Carriers
+pub mod Details
 pub mod Groups
 pub mod Kinds
 pub mod Letters

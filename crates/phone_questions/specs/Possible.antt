@@ -37,15 +37,21 @@ lengths_by m d = if length d.possible_length == 0 then general_lengths m else d.
 abbrev pub is_among : ℕ → List ℕ → Bool
 is_among n lengths = list_any (λ l. l == n) lengths
 
--- what a length says: it suffices within an area; it is listed, or none is; it is below each that
--- is listed, above each, or between them
-abbrev pub verdict_on : (lengths local : List ℕ) → ℕ → Validation
-verdict_on lengths local n =
-    if is_among n local then IsPossibleLocalOnly
-    else if (length lengths == 0) || is_among n lengths then IsPossible
-    else if list_all (λ l. nat_lt n l) lengths then TooShort
-    else if list_all (λ l. nat_lt l n) lengths then TooLong
+-- what a length says: it suffices within an area; it is allowed; it is less than each that is
+-- listed, more than each, or between them
+abbrev pub verdict_told : (local allowed less more : Bool) → Validation
+verdict_told local allowed less more =
+    if local then IsPossibleLocalOnly
+    else if allowed then IsPossible
+    else if less then TooShort
+    else if more then TooLong
     else InvalidLength
+
+-- the same by lengths: one that is listed is allowed, and each where none is
+abbrev pub verdict_on : (lengths local : List ℕ) → ℕ → Validation
+verdict_on lengths local n = verdict_told (is_among n local)
+    ((length lengths == 0) || is_among n lengths)
+    (list_all (λ l. nat_lt n l) lengths) (list_all (λ l. nat_lt l n) lengths)
 
 -- the same by the lengths of descriptors; without a descriptor no length is valid
 abbrev pub verdict_by : Metadata → List Descriptor → ℕ → Validation

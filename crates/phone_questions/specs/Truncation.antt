@@ -3,12 +3,14 @@
 use Rattle.std.specs.Prelude.{◌≡◌, ℕ, zero, suc, ◌/◌, ◌==◌, ◌&&◌, not, Bool, true, false, List, []}
 use Rattle.std.specs.Prelude.{◌∷◌, ◌++◌, if◌then◌else◌, Option}
 use Rattle.std.specs.List.{find}
+use Rattle.std.specs.Option.{option_map_or}
 use Rattle.phone_values.specs.Numbers.{National, text_of}
 use Rattle.phone_values.specs.declared.kind.«Type».TheVariants.{Unknown}
 use Rattle.phone_values.specs.declared.reading.Reading.{Reading}
 use Rattle.phone_values.specs.declared.validator.Validation.{Validation}
 use Rattle.phone_values.specs.declared.validator.Validation.TheVariants.{TooShort}
 use Rattle.phone_library.specs.Facts.{is_valid_number}
+use Rattle.phone_territory.specs.Records.{allows_length}
 use Rattle.phone_records.specs.declared.loader.Metadata.{Metadata}
 use Rattle.phone_questions.specs.Possible.{possibility_as}
 
@@ -28,6 +30,10 @@ cut n = with_national n (shortened n.national)
 abbrev pub is_too_short : Validation → Bool
 is_too_short TooShort = true
 is_too_short _ = false
+
+-- a territory has numbers of so many digits
+abbrev pub has_length : ℕ → Metadata → Bool
+has_length n m = option_map_or (λ d. allows_length d n) m.general false
 
 -- digits are left, and not too few
 abbrev pub is_left : List Metadata → Reading → Bool

@@ -1,11 +1,12 @@
 //! Which territory a number is of, and of which it is a valid number.
-ghost use Rattle.std.specs.Prelude.{◌≡◌, IfOk, Some};
-ghost use Rattle.std.specs.Option.{option_copied};
+ghost use Rattle.std.specs.Prelude.{◌≡◌, IfOk, Some, false};
+ghost use Rattle.std.specs.Option.{option_and_then, option_copied, option_map_or};
 ghost use Rattle.phone_library.specs.Kinds.{is_number_of};
 ghost use Rattle.phone_rules.specs.Kinds.{is_known};
 ghost use Rattle.phone_questions.specs.Belonging.{is_dialled_from_abroad, is_geographical};
-ghost use Rattle.phone_questions.specs.Belonging.{is_home_number, is_known_in, is_valid_for};
-ghost use Rattle.phone_questions.specs.Belonging.{own_territory, territory_with};
+ghost use Rattle.phone_questions.specs.Belonging.{is_dialled_by_region, is_home_number};
+ghost use Rattle.phone_questions.specs.Belonging.{is_known_in, is_valid_for, territory_with};
+ghost use Rattle.phone_questions.specs.Regions.{territory_of};
 
 use crate::kinds::is_geographical_kind;
 use crate::regions::territory_of;
@@ -13,6 +14,7 @@ use phone_library::{kind_in, number_type, region};
 use phone_plans::{Plans, Territory};
 use phone_territory::Descriptor;
 use phone_values::Type;
+use phone_values::country::Id;
 use phonenumber::PhoneNumber;
 use std::alloc::AllocError;
 
@@ -50,16 +52,13 @@ fn is_known(kind: Type) -> bool
     !matches!(kind, Type::Unknown)
 }
 
-/// The territory of a number's region. Refused only for memory.
-pub(crate) fn own_territory<'d>(
-    database: &'d Plans,
-    number: &PhoneNumber,
-) -> Result<Option<&'d Territory>, AllocError>
-    ensures { IfOk result (λ m. option_copied m ≡ own_territory database.entry.now number.now) }
+/// The territory of the region that a number has.
+pub(crate) fn territory_of_own(database: &Plans, region: Option<Id>) -> Option<&Territory>
+    ensures { option_copied result ≡ option_and_then (territory_of database.entry.now) region }
 {
-    match region(database, number)? {
-        Some(region) => Ok(territory_of(database, region)),
-        None => Ok(None),
+    match region {
+        Some(region) => territory_of(database, region),
+        None => None,
     }
 }
 
@@ -69,9 +68,33 @@ pub(crate) fn own_territory<'d>(
 pub fn is_dialled_from_abroad(database: &Plans, number: &PhoneNumber) -> Result<bool, AllocError>
     ensures { IfOk result (λ b. b ≡ is_dialled_from_abroad database.now number.now) }
 {
-    match own_territory(database, number)? {
-        Some(territory) => Ok(!is_home_number(number, territory)?),
-        None => Ok(true),
+    is_dialled_by_region(database, region(database, number)?, number)
+}
+
+/// The same of a number whose region this is. Refused only for memory.
+pub fn is_dialled_by_region(
+    database: &Plans,
+    region: Option<Id>,
+    number: &PhoneNumber,
+) -> Result<bool, AllocError>
+    ensures { IfOk result (λ b. b ≡
+        is_dialled_by_region database.now region number.now) }
+{
+    Ok(!is_home_in(number, territory_of_own(database, region))?)
+}
+
+/// Whether a territory that is there says that a number is dialled at home alone. Refused only for
+/// memory.
+pub(crate) fn is_home_in(
+    number: &PhoneNumber,
+    territory: Option<&Territory>,
+) -> Result<bool, AllocError>
+    ensures { IfOk result (λ b. b ≡
+        option_map_or (is_home_number number.now) (option_copied territory.entry) false) }
+{
+    match territory {
+        Some(territory) => is_home_number(number, territory),
+        None => Ok(false),
     }
 }
 

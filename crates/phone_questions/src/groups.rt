@@ -1,14 +1,15 @@
 //! How many digits of a number are its area code, and its destination code.
 ghost use Rattle.std.specs.Prelude.{◌≡◌, ◌+◌, IfOk, chars, length, string_bytes};
-ghost use Rattle.phone_questions.specs.Groups.{after_group, area_length, destination_length};
+ghost use Rattle.phone_questions.specs.Groups.{after_group, area_length, destination_by};
+ghost use Rattle.phone_questions.specs.Groups.{destination_length};
 ghost use Rattle.phone_questions.specs.Groups.{first_group, has_area, has_token, is_mobile};
 ghost use Rattle.phone_questions.specs.Groups.{is_without_area, laid_abroad, length_in_groups};
 ghost use Rattle.phone_questions.specs.Groups.{may_have_area, second_group};
 
-use crate::belonging::own_territory;
+use crate::belonging::territory_of_own;
 use crate::kinds::{is_geographical_kind, mobile_token};
 use phone_chars::cuts::{CharSet, after_run, split_run};
-use phone_library::number_type;
+use phone_library::{facts, number_type};
 use phone_plans::{Plans, Territory};
 use phone_print::printing::{first_layout, layouts_for};
 use phone_territory::Subject;
@@ -28,10 +29,20 @@ const CHINA: u16 = 86;
 pub fn destination_length(database: &Plans, number: &PhoneNumber) -> Result<usize, AllocError>
     ensures { IfOk result (λ n. n ≡ destination_length database.now number.now) }
 {
+    destination_by(database, number_type(database, number)?, number)
+}
+
+/// The same of a number of a kind. Refused only for memory.
+pub(crate) fn destination_by(
+    database: &Plans,
+    kind: Type,
+    number: &PhoneNumber,
+) -> Result<usize, AllocError>
+    ensures { IfOk result (λ n. n ≡ destination_by database.now kind number.now) }
+{
     let Some(territory) = database.first_by_code(&number.code().value()) else {
         return Ok(0);
     };
-    let kind = number_type(database, number)?;
     let digits = number.national().to_string(database.allocator())?;
     let laid = laid_abroad(territory, digits.as_str())?;
     Ok(length_in_groups(has_token(kind, number.code().value()), laid.as_str()))
@@ -44,18 +55,19 @@ pub fn destination_length(database: &Plans, number: &PhoneNumber) -> Result<usiz
 pub fn area_length(database: &Plans, number: &PhoneNumber) -> Result<usize, AllocError>
     ensures { IfOk result (λ n. n ≡ area_length database.now number.now) }
 {
-    let Some(territory) = own_territory(database, number)? else {
+    let told = facts(database, number)?;
+    let Some(territory) = territory_of_own(database, told.region) else {
         return Ok(0);
     };
-    if has_area(number_type(database, number)?, number, territory) {
-        destination_length(database, number)
+    if has_area(told.kind, number, territory) {
+        destination_by(database, told.kind, number)
     } else {
         Ok(0)
     }
 }
 
 /// Whether a number of a kind has an area code.
-fn has_area(kind: Type, number: &PhoneNumber, m: &Territory) -> bool
+pub(crate) fn has_area(kind: Type, number: &PhoneNumber, m: &Territory) -> bool
     ensures { result ≡ has_area kind number.now m.now }
 {
     let code = number.code().value();

@@ -7,6 +7,7 @@
 
 mod belonging;
 mod carriers;
+mod details;
 mod groups;
 mod kinds;
 mod letters;
@@ -16,8 +17,11 @@ mod regions;
 mod text_matches;
 mod truncation;
 
-pub use belonging::{is_dialled_from_abroad, is_geographical, is_valid_for};
+pub use belonging::{
+    is_dialled_by_region, is_dialled_from_abroad, is_geographical, is_valid_for,
+};
 pub use carriers::{national_with_carrier, national_with_preferred_carrier};
+pub use details::{NumberDetails, details_of};
 pub use groups::{area_length, destination_length};
 pub use kinds::{is_geographical_kind, kinds_of_code, kinds_of_region, mobile_token};
 pub use letters::{diallable_only, digits_only, has_letters, with_keys};

@@ -1,12 +1,13 @@
 //! What is left of a number that has too many digits.
-ghost use Rattle.std.specs.Prelude.{◌≡◌, ◌&&◌, IfOk, option_map, if◌then◌else◌};
-ghost use Rattle.std.specs.List.{find};
+ghost use Rattle.std.specs.Prelude.{◌≡◌, ◌&&◌, IfOk, filter, option_map, if◌then◌else◌};
+ghost use Rattle.std.specs.List.{find, list_any};
 ghost use Rattle.phone_library.specs.Facts.{is_valid_number};
-ghost use Rattle.phone_questions.specs.Truncation.{cuts, is_left, is_too_short, shortened};
-ghost use Rattle.phone_questions.specs.Truncation.{truncated, with_national};
+ghost use Rattle.phone_plans.specs.Records.{has_code};
+ghost use Rattle.phone_questions.specs.Truncation.{cuts, has_length, is_left, is_too_short};
+ghost use Rattle.phone_questions.specs.Truncation.{shortened, truncated, with_national};
 ghost use Rattle.phone_questions.specs.declared.truncation.Left.TheVariants as left;
 
-use crate::possible::possibility_as;
+use crate::possible::{count_of, possibility_as};
 use phone_base::results::zip;
 use phone_library::is_valid;
 use phone_plans::Plans;
@@ -24,7 +25,7 @@ const MOST_DIGITS: usize = 17;
 pub fn truncated(database: &Plans, number: &PhoneNumber) -> Result<Option<PhoneNumber>, AllocError>
     ensures { IfOk result (λ t. t ≡ truncated database.now number.now) }
 {
-    if is_valid(database, number)? {
+    if is_valid_by_length(database, number)? {
         return Ok(Some(number.clone()?));
     }
     match first_valid(database, number)? {
@@ -51,7 +52,7 @@ fn first_valid(database: &Plans, number: &PhoneNumber) -> Result<Option<National
 }
 
 /// What is left of a number once digits are cut off.
-#[derive(Clone, Copy, PartialEq, Eq, Debug)]
+#[derive(Clone, Copy)]
 enum Left {
     /// No digits, or too few.
     Nothing,
@@ -81,24 +82,42 @@ fn judged(database: &Plans, rest: &PhoneNumber) -> Result<Left, AllocError>
         then (if is_valid_number database.now rest.now then left.Valid else left.Invalid)
         else left.Nothing)) }
 {
-    if !is_left(database, rest)? {
+    if !is_left(database, rest) {
         return Ok(Left::Nothing);
     }
-    if is_valid(database, rest)? {
+    if is_valid_by_length(database, rest)? {
         Ok(Left::Valid)
     } else {
         Ok(Left::Invalid)
     }
 }
 
-/// Whether digits are left, and not too few. Refused only for memory.
-fn is_left(database: &Plans, rest: &PhoneNumber) -> Result<bool, AllocError>
-    ensures { IfOk result (λ b. b ≡ is_left database.now rest.now) }
+/// Whether a number is valid. Its digits are searched only where a territory of its calling code
+/// has numbers of so many. Refused only for memory.
+fn is_valid_by_length(database: &Plans, number: &PhoneNumber) -> Result<bool, AllocError>
+    ensures { IfOk result (λ b. b ≡ is_valid_number database.now number.now) }
 {
-    if rest.national().value() == 0 {
-        return Ok(false);
+    if has_length(database, number.code().value(), count_of(number.national())) {
+        is_valid(database, number)
+    } else {
+        Ok(false)
     }
-    Ok(!is_too_short(possibility_as(database, Type::Unknown, rest)?))
+}
+
+/// Whether a territory of a calling code has numbers of so many digits.
+fn has_length(database: &Plans, code: u16, digits: usize) -> bool
+    ensures { result ≡ list_any (has_length digits) (filter (has_code code) database.now) }
+{
+    database
+        .of_code(code)
+        .any(|m| m.descriptors().general().allows_length(digits))
+}
+
+/// Whether digits are left, and not too few.
+fn is_left(database: &Plans, rest: &PhoneNumber) -> bool
+    ensures { result ≡ is_left database.now rest.now }
+{
+    rest.national().value() != 0 && !is_too_short(possibility_as(database, Type::Unknown, rest))
 }
 
 /// Whether a verdict says that more digits are missing.

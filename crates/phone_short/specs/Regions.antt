@@ -52,6 +52,17 @@ reaches_emergency db region t = option_map_or (λ m. reaches_emergency_in m t) (
 abbrev pub short_kind : List Metadata → Id → List ℕ → Option ShortKind
 short_kind db region t = option_and_then (λ m. kind_in m t) (record_of db region)
 
+-- all that a region's record tells of a text
+abbrev pub facts_in : Metadata → List ℕ → ShortFacts
+facts_in m t = record {
+  is_possible = numbers.is_possible m (digits_in t);
+  is_valid = numbers.is_valid m (digits_in t);
+  cost = cost_in m (digits_in t);
+  is_carrier_specific = numbers.is_carrier_specific m (digits_in t);
+  is_emergency = is_emergency_in m t;
+  reaches_emergency = reaches_emergency_in m t;
+}
+
 -- all of these at once
 abbrev pub short_facts : List Metadata → Id → List ℕ → ShortFacts
 short_facts db region t = record {

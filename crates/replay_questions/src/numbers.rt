@@ -104,7 +104,7 @@ fn carrier(row: &Row) -> &str {
 
 /// What the count of a number's digits says.
 fn verdict(alloc: Global, db: &Database, kind: Type, n: &PhoneNumber) -> Result<String> {
-    let verdict = possibility_as(db, kind, n)?;
+    let verdict = possibility_as(db, kind, n);
     Ok(format!(in alloc; "{verdict:?}")?)
 }
 
