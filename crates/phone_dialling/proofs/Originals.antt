@@ -1,5 +1,5 @@
 -- What is printed as it was written, from what is read and found.
-use Rattle.std.proofs.Common.{◌≡◌, ◌++◌, ℕ, not, Bool, List, Option, Some, Result, IfOk, chars, sym, subst}
+use Rattle.std.proofs.Common.{◌≡◌, ◌++◌, ℕ, not, Bool, true, false, cond, if◌then◌else◌, List, Option, None, Some, Result, IfOk, chars, refl, ap₂, sym, subst}
 use Rattle.phone_values.specs.declared.country.Id.{Id}
 use Rattle.phone_values.specs.declared.error.ParseError.{ParseError}
 use Rattle.phone_values.specs.declared.reading.Reading.{Reading}
@@ -8,7 +8,7 @@ use Rattle.phone_records.specs.declared.loader.Format.{Format}
 use Rattle.phone_records.specs.declared.loader.Metadata.{Metadata}
 use Rattle.phone_rules.proofs.Results.{ok_again}
 use Rattle.phone_dialling.specs.Original
-use Rattle.phone_dialling.specs.Original.{IsBehind, IsNotBehind, IsToldText, LeavesPrefix, digits_of, hinted_text, is_valid_read, region_of, written_prefix}
+use Rattle.phone_dialling.specs.Original.{IsBehind, IsToldText, LeavesPrefix, digits_of, hinted_text, is_valid_read, own_prefix, region_of, writes_digits, written_prefix}
 use Rattle.phone_values.specs.declared.country.Source.TheVariants.{Default}
 
 pub behind_so : {E : Type 0} (db : List Metadata) (hint : Option Id) (prefix digits rest : List ℕ) (x : Result Bool E) →
@@ -18,11 +18,34 @@ pub behind_so : {E : Type 0} (db : List Metadata) (hint : Option Id) (prefix dig
 behind_so db hint prefix digits rest x whole f =
     ok_again x _ _ (λ b (r, reads, e). subst (IsBehind db hint prefix digits) (sym e) (Original.read rest r whole reads)) f
 
-pub leaves_so : {E : Type 0} (db : List Metadata) (m : Metadata) (f : Format) (raw prefix : List ℕ) (x : Result Bool E) →
-    written_prefix db m f ≡ Some prefix → IfOk x (IsNotBehind db (region_of m) prefix (digits_of raw)) →
-    IfOk x (LeavesPrefix db m f raw)
-leaves_so db m f raw prefix x e g =
-    ok_again x _ _ (λ b (behind, same, h). subst (LeavesPrefix db m f raw) (sym same) (Original.asked prefix behind e h)) g
+-- whether the national prefix is left away, by the prefix of the territory's region
+module _ (db : List Metadata) (m : Metadata) (f : Format) (raw : List ℕ) where
+  pub leaves_none : own_prefix db m ≡ None → LeavesPrefix db m f raw false
+  leaves_none e = Original.none (at (writes_digits m f))
+    where
+      at : (w : Bool) → (if w then own_prefix db m else None) ≡ None
+      at true = e
+      at false = refl
+
+  module _ (prefix : List ℕ) (own : own_prefix db m ≡ Some prefix) where
+    written : (w : Bool) → writes_digits m f ≡ w → written_prefix db m f ≡ (if w then Some prefix else None)
+    written w e = ap₂ (λ (b : Bool) (o : Option (List ℕ)). if b then o else None) e own
+
+    -- not where a valid number stands behind the prefix, whatever the layout writes
+    pub leaves_not : IsBehind db (region_of m) prefix (digits_of raw) true → LeavesPrefix db m f raw false
+    leaves_not behind = at (writes_digits m f) refl
+      where
+        at : (w : Bool) → writes_digits m f ≡ w → LeavesPrefix db m f raw false
+        at true e = Original.asked prefix true (written true e) behind
+        at false e = Original.none (written false e)
+
+    -- else where the layout writes it
+    pub leaves_told : IsBehind db (region_of m) prefix (digits_of raw) false → LeavesPrefix db m f raw (writes_digits m f)
+    leaves_told behind = at (writes_digits m f) refl
+      where
+        at : (w : Bool) → writes_digits m f ≡ w → LeavesPrefix db m f raw w
+        at true e = Original.asked prefix false (written true e) behind
+        at false e = Original.none (written false e)
 
 pub hint_so : {X E : Type 0} (bytes : X → List ℕ) (db : List Metadata) (from : Option Id) (raw : List ℕ) (n : Reading) (m : Metadata)
     (f : Format) (x : Result X E) →

@@ -81,11 +81,6 @@ pub data IsBehind (db : List Metadata) (hint : Option Id) (prefix digits : List 
   read : (rest : List ℕ) (r : Result Reading ParseError) → digits ≡ prefix ++ rest →
       ReadsByLibrary db hint (chars rest) r → IsBehind db hint prefix digits (is_valid_read db r)
 
--- the same the other way round
-abbrev pub IsNotBehind : List Metadata → Option Id → (prefix digits : List ℕ) → Bool → Type 0
-IsNotBehind db hint prefix digits b = (behind : Bool) × (b ≡ not behind) ×
-    IsBehind db hint prefix digits behind
-
 -- the digits of a text
 abbrev pub digits_of : List ℕ → List ℕ
 digits_of raw = digits_only (chars raw)

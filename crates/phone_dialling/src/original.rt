@@ -5,13 +5,12 @@ ghost use Rattle.std.specs.List.{find, list_any};
 ghost use Rattle.phone_chars.specs.Characters.{is_nd};
 ghost use Rattle.std.specs.Option.{option_and_then, option_copied};
 ghost use Rattle.std.specs.Str.{bytes_eq};
-ghost use Rattle.phone_dialling.specs.Original.{IsBehind, IsNotBehind, IsOriginal, IsToldText};
-ghost use Rattle.phone_dialling.specs.Original.{LeavesPrefix};
+ghost use Rattle.phone_dialling.specs.Original.{IsBehind, IsOriginal, IsToldText, LeavesPrefix};
 ghost use Rattle.phone_dialling.specs.Original.{bare_text, dialled_of, digits_of};
 ghost use Rattle.phone_dialling.specs.Original.{has_digit_before, hinted_text, is_layout_of};
 ghost use Rattle.phone_dialling.specs.Original.{is_no_group, is_valid_read, layout_in, own_prefix};
 ghost use Rattle.phone_dialling.specs.Original.{region_of, unless_changed};
-ghost use Rattle.phone_dialling.specs.Original.{written_prefix, writes_digits};
+ghost use Rattle.phone_dialling.specs.Original.{writes_digits};
 ghost use Rattle.phone_dialling.specs.Abroad.{if_some};
 ghost use Rattle.phone_dialling.specs.Texts.{signless, text_in};
 ghost use Rattle.phone_library.specs.Readings.{ReadsByLibrary};
@@ -244,33 +243,43 @@ fn leaves_prefix(
 ) -> Result<bool, AllocError>
     ensures { IfOk result (λ b. LeavesPrefix database.now m.now layout.now raw.now b) }
 {
-    let prefix = written_prefix(database, m, layout)?;
+    let prefix = own_prefix(database, m)?;
     match prefix {
-        Some(prefix) => is_left(database, m, prefix.as_str(), raw),
+        Some(prefix) => leaves_own(database, m, layout, prefix.as_str(), raw),
         None => Ok(false),
     }
 }
 
-/// Whether a text has no valid number behind this prefix. Refused only for memory.
-fn is_left(database: &Plans, m: &Territory, prefix: &str, raw: &str) -> Result<bool, AllocError>
-    ensures { IfOk result (IsNotBehind database.now (region_of m.now) prefix.now
-        (digits_of raw.now)) }
+/// The same where this is the national prefix of the territory's region. What the layout writes is
+/// asked only of a text that has no valid number behind the prefix. Refused only for memory.
+fn leaves_own(
+    database: &Plans,
+    m: &Territory,
+    layout: &Format,
+    prefix: &str,
+    raw: &str,
+) -> Result<bool, AllocError>
+    requires { own_prefix database.now m.now ≡ Some prefix.now }
+    ensures { IfOk result (λ b. LeavesPrefix database.now m.now layout.now raw.now b) }
 {
-    let digits = digits_only(m.allocator(), raw)?;
-    is_not_behind(database, m.region(), prefix, digits.as_str())
+    if stands_behind(database, m, prefix, raw)? {
+        Ok(false)
+    } else {
+        writes_digits(database, m, layout)
+    }
 }
 
-/// Whether digits are no valid number of a region behind a prefix. Refused only for memory.
-fn is_not_behind(
+/// Whether a text has a valid number behind this prefix. Refused only for memory.
+fn stands_behind(
     database: &Plans,
-    hint: Option<Id>,
+    m: &Territory,
     prefix: &str,
-    digits: &str,
+    raw: &str,
 ) -> Result<bool, AllocError>
-    ensures { IfOk result (IsNotBehind database.now hint prefix.now digits.now) }
+    ensures { IfOk result (IsBehind database.now (region_of m.now) prefix.now (digits_of raw.now)) }
 {
-    let behind = is_behind(database, hint, prefix, digits)?;
-    Ok(!behind)
+    let digits = digits_only(m.allocator(), raw)?;
+    is_behind(database, m.region(), prefix, digits.as_str())
 }
 
 /// Whether digits are a valid number of a region behind a prefix. Refused only for memory.
@@ -315,22 +324,6 @@ fn invalid(error: ParseError) -> Result<bool, AllocError>
     match error {
         ParseError::Memory => Err(AllocError),
         _ => Ok(false),
-    }
-}
-
-/// The national prefix that a layout writes. Refused only for memory.
-fn written_prefix(
-    database: &Plans,
-    m: &Territory,
-    layout: &Format,
-) -> Result<Option<String>, AllocError>
-    ensures { IfOk result (λ p. option_map string_bytes p ≡
-        written_prefix database.now m.now layout.now) }
-{
-    if writes_digits(database, m, layout)? {
-        own_prefix(database, m)
-    } else {
-        Ok(None)
     }
 }
 

@@ -4,7 +4,9 @@ ghost use Rattle.std.specs.Option.{option_copied};
 ghost use Rattle.phone_short_questions.specs.ShortNumbers.{dearest_of, is_one_cost};
 ghost use Rattle.phone_short_questions.specs.ShortRecords.{cost_by};
 ghost use Rattle.phone_own_answers.specs.Costs.{is_valid_by, known_by, known_cost};
+ghost use Rattle.phone_values.specs.Numbers.{text_of};
 
+use itoa::Buffer;
 use phone_pattern::Subject;
 use phone_plans::{Plans, Territory};
 use phone_short::Cost;
@@ -19,9 +21,28 @@ use std::alloc::AllocError;
 pub fn known_cost(database: &Plans, short: &Plans, number: &PhoneNumber) -> Result<Cost, AllocError>
     ensures { IfOk result (λ c. c ≡ known_cost database.now short.now number.now) }
 {
-    let digits = number.national().to_string(database.allocator())?;
+    let national = number.national();
+    if national.zeros() == 0 {
+        let mut buffer = Buffer::new();
+        let digits = buffer.format(national.value());
+        return cost_of_digits(database, short, number, digits);
+    }
+    let digits = national.to_string(database.allocator())?;
+    cost_of_digits(database, short, number, digits.as_str())
+}
+
+/// The same of a number that has these digits. Refused only for memory.
+fn cost_of_digits(
+    database: &Plans,
+    short: &Plans,
+    number: &PhoneNumber,
+    digits: &str,
+) -> Result<Cost, AllocError>
+    requires { digits.now ≡ text_of number.now.national }
+    ensures { IfOk result (λ c. c ≡ known_cost database.now short.now number.now) }
+{
     let records = short_records(database, short, number)?;
-    dearest_known(records.as_slice(), &Subject::of(digits.as_str()))
+    dearest_known(records.as_slice(), &Subject::of(digits))
 }
 
 /// The first that digits cost by those of these records that know them of premium rate, an unknown

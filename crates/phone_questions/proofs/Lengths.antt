@@ -1,5 +1,5 @@
 -- A number with a count of digits that no territory of its calling code has isn't valid.
-use Rattle.std.proofs.Common.{◌≡◌, ℕ, ◌×◌, ◌&&◌, ◌||◌, Bool, true, false, cond, if◌then◌else◌, List, [], ◌∷◌, ◌++◌, length, filter, reverse, Option, None, Some, refl, ap, sym, subst, ◌∙◌}
+use Rattle.std.proofs.Common.{◌≡◌, ℕ, ◌&&◌, ◌||◌, Bool, true, false, cond, if◌then◌else◌, List, [], ◌∷◌, ◌++◌, length, filter, reverse, Option, None, Some, refl, ap, sym, subst, ◌∙◌}
 use Rattle.std.proofs.lemmas.Bool.{or_from, or_parts}
 use Rattle.std.proofs.lemmas.List.Folds.{list_any-append}
 use Rattle.std.proofs.lemmas.List.Sorted.{IsPermutation-reverse, list_any-IsPermutation}
@@ -24,11 +24,13 @@ use Rattle.phone_values.specs.declared.reading.Reading.{Reading}
 module _ (p : Metadata → Bool) where
   none_filtered : (r : Metadata → Bool) (xs : List Metadata) → list_any p xs ≡ false → list_any p (filter r xs) ≡ false
   none_filtered r [] none = refl
-  none_filtered r (x ∷ xs) none = at (r x) (or_parts (p x) (list_any p xs) none)
+  none_filtered r (x ∷ xs) none =
+      let both = or_parts (p x) (list_any p xs) none in
+      at (r x) both.0 (none_filtered r xs both.1)
     where
-      at : (b : Bool) → (p x ≡ false) × (list_any p xs ≡ false) → list_any p (if b then x ∷ filter r xs else filter r xs) ≡ false
-      at true both = or_from (p x) (list_any p (filter r xs)) both.0 (none_filtered r xs both.1)
-      at false both = none_filtered r xs both.1
+      at : (b : Bool) → p x ≡ false → list_any p (filter r xs) ≡ false → list_any p (if b then x ∷ filter r xs else filter r xs) ≡ false
+      at true here rest = or_from (p x) (list_any p (filter r xs)) here rest
+      at false here rest = rest
 
   none_in_order : (xs : List Metadata) → list_any p xs ≡ false → list_any p (in_order xs) ≡ false
   none_in_order xs none =

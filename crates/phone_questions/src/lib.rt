@@ -17,9 +17,7 @@ mod regions;
 mod text_matches;
 mod truncation;
 
-pub use belonging::{
-    is_dialled_by_region, is_dialled_from_abroad, is_geographical, is_valid_for,
-};
+pub use belonging::{is_dialled_by_region, is_dialled_from_abroad, is_geographical, is_valid_for};
 pub use carriers::{national_with_carrier, national_with_preferred_carrier};
 pub use details::{NumberDetails, details_of};
 pub use groups::{area_length, destination_length};

@@ -8,12 +8,12 @@ use Rattle.phone_short_questions.specs.ShortRecords.{cost_by, short_records}
 use Rattle.phone_short_questions.proofs.Plain.{plain}
 use Rattle.phone_own_answers.specs.Costs.{known_by}
 use Rattle.phone_own_answers.proofs.KnownCosts.{known_same}
-use Rattle.phone_own_answers.proofs.costs.known_cost.Goals as goal
+use Rattle.phone_own_answers.proofs.costs.cost_of_digits.Goals as goal
 
 pub returns : goal.returns
 returns c =
     let n = c.args.number.now in
-    let digits : c.of.result ≡ text_of n.national = search rules in
+    let digits : c.of.result ≡ text_of n.national = c.of.ensures ∙ c.requires in
     let rows : map option_copied c.as_slice.result.now ≡ short_records c.args.database.now c.args.short.now n = search rules in
     ok_again c.dearest_known.result _ _
     (λ told e. e ∙ ap₂ (λ ds rs. dearest_of (map (cost_by ds) (filter (known_by ds) rs))) digits rows
