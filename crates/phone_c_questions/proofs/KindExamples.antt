@@ -6,7 +6,7 @@ use Rattle.phone_values.specs.declared.error.ParseError.TheVariants.{Memory}
 use Rattle.phone_values.specs.declared.kind.«Type».{«Type»}
 use Rattle.phone_values.specs.declared.reading.Reading.{Reading}
 use Rattle.phone_records.specs.declared.loader.Metadata.{Metadata}
-use Rattle.phone_examples.specs.Lowest.{AnswersAny, IsAnyExample}
+use Rattle.phone_further.specs.Lowest.{AnswersAny, IsAnyExample}
 use Rattle.phone_c_base.specs.Kinds.{kind_of}
 use Rattle.phone_c_questions.specs.KindExamples.{HasNoneOfKind, IsKindRefused, IsOfKind}
 

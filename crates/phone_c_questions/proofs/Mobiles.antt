@@ -2,7 +2,7 @@
 use Rattle.std.proofs.Common.{◌≡◌, ℕ, ◌==◌, not, List}
 use Rattle.phone_values.specs.declared.reading.Reading.{Reading}
 use Rattle.phone_records.specs.declared.loader.Metadata.{Metadata}
-use Rattle.phone_own_answers.specs.Answers.{mobile_text_in}
+use Rattle.phone_further.specs.Answers.{mobile_text_in}
 use Rattle.phone_c_base.specs.Numbers.{IsNumber}
 use Rattle.phone_c_base.specs.declared.number.Number as plain
 use Rattle.phone_c_questions.specs.Own.{IsOwnMobileText}

@@ -7,8 +7,8 @@ use Rattle.phone_values.specs.declared.reading.Reading.{Reading}
 use Rattle.phone_values.specs.declared.rules.Rules.TheVariants.{Library}
 use Rattle.phone_engine.proofs.OneReading.{reading_same}
 use Rattle.phone_records.specs.declared.loader.Metadata.{Metadata}
-use Rattle.phone_examples.specs.Examples
-use Rattle.phone_examples.specs.Examples.{AnswersExample, IsExample}
+use Rattle.phone_further.specs.Examples
+use Rattle.phone_further.specs.Examples.{AnswersExample, IsExample}
 use Rattle.phone_c_questions.specs.Examples.{IsOfCode, code_text}
 
 -- what is read is one number

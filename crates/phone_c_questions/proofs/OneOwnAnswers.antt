@@ -3,10 +3,10 @@ use Rattle.std.proofs.Common.{◌≡◌, ℕ, ◌==◌, not, List, [], Option, N
 use Rattle.phone_values.specs.declared.kind.«Type».{«Type»}
 use Rattle.phone_values.specs.declared.reading.Reading.{Reading}
 use Rattle.phone_records.specs.declared.loader.Metadata.{Metadata}
-use Rattle.phone_own_answers.specs.Answers.{reaches_from_abroad}
-use Rattle.phone_own_answers.specs.Costs.{known_cost}
-use Rattle.phone_own_answers.specs.Matches.{match_numbers}
-use Rattle.phone_own_answers.specs.Possible.{possibility_of}
+use Rattle.phone_further.specs.Answers.{reaches_from_abroad}
+use Rattle.phone_further.specs.Costs.{known_cost}
+use Rattle.phone_further.specs.Matches.{match_numbers}
+use Rattle.phone_further.specs.Possible.{possibility_of}
 use Rattle.phone_c_base.proofs.OneAnswers.{one_number}
 use Rattle.phone_c_base.specs.Kinds.{kind_of}
 use Rattle.phone_c_base.specs.Numbers.{HasNumbers, IsNumber}

@@ -11,9 +11,9 @@ use Rattle.phone_engine.proofs.OneReading.{reading_same}
 use Rattle.phone_library.specs.Readings.{ReadsByLibrary}
 use Rattle.phone_library_text.proofs.WrittenOnes.{written_same}
 use Rattle.phone_records.specs.declared.loader.Metadata.{Metadata}
-use Rattle.phone_own_answers.specs.Matches.{match_numbers}
-use Rattle.phone_own_answers.specs.TextMatches
-use Rattle.phone_own_answers.specs.TextMatches.{AreBareMatch, AreTextsMatch, IsTextMatch, match_bare, match_beside}
+use Rattle.phone_further.specs.Matches.{match_numbers}
+use Rattle.phone_further.specs.TextMatches
+use Rattle.phone_further.specs.TextMatches.{AreBareMatch, AreTextsMatch, IsTextMatch, match_bare, match_beside}
 use Rattle.phone_questions.specs.TextMatches as asked
 use Rattle.phone_questions.specs.TextMatches.{IsBare, IsBeside, bare_number}
 use Rattle.phone_questions.specs.declared.matches.NumberMatch.{NumberMatch}

@@ -5,8 +5,8 @@ use Rattle.phone_values.specs.Refusals.{refusal_number}
 use Rattle.phone_values.specs.declared.error.ParseError.{ParseError}
 use Rattle.phone_values.specs.declared.reading.Reading.{Reading}
 use Rattle.phone_records.specs.declared.loader.Metadata.{Metadata}
-use Rattle.phone_examples.specs.Examples.{IsExample, code_example, worldwide_kinds}
-use Rattle.phone_examples.specs.Invalid.{IsInvalidExample}
+use Rattle.phone_further.specs.Examples.{IsExample, code_example, worldwide_kinds}
+use Rattle.phone_further.specs.Invalid.{IsInvalidExample}
 use Rattle.phone_c_base.specs.Buffers.{IsTooLong, IsWritten}
 use Rattle.phone_c_base.specs.Numbers.{IsNumber, texts_of}
 use Rattle.phone_c_base.specs.declared.number.Number as plain

@@ -4,7 +4,7 @@ use Rattle.phone_values.specs.Refusals.{refusal_number}
 use Rattle.phone_values.specs.declared.error.ParseError.{ParseError}
 use Rattle.phone_values.specs.declared.reading.Reading.{Reading}
 use Rattle.phone_records.specs.declared.loader.Metadata.{Metadata}
-use Rattle.phone_examples.specs.Lowest.{IsAnyExample}
+use Rattle.phone_further.specs.Lowest.{IsAnyExample}
 use Rattle.phone_c_base.specs.Kinds.{kind_of}
 
 -- the number is a kind's, and this is what the example of it is read as

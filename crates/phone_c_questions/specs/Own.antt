@@ -2,9 +2,9 @@
 use Rattle.std.specs.Prelude.{◌≡◌, ℕ, ◌==◌, not, List, IsSomeAnd}
 use Rattle.phone_values.specs.declared.reading.Reading.{Reading}
 use Rattle.phone_records.specs.declared.loader.Metadata.{Metadata}
-use Rattle.phone_own_answers.specs.Answers.{mobile_text_in, reaches_from_abroad}
-use Rattle.phone_own_answers.specs.Costs.{known_cost}
-use Rattle.phone_own_answers.specs.Possible.{possibility_of}
+use Rattle.phone_further.specs.Answers.{mobile_text_in, reaches_from_abroad}
+use Rattle.phone_further.specs.Costs.{known_cost}
+use Rattle.phone_further.specs.Possible.{possibility_of}
 use Rattle.phone_c_base.specs.Kinds.{kind_of}
 use Rattle.phone_c_base.specs.Numbers.{HasNumbers, IsNumber}
 use Rattle.phone_c_base.specs.ShortNumbers.{cost_number, flag}

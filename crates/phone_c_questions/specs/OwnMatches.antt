@@ -3,8 +3,8 @@ use Rattle.std.specs.Prelude.{◌≡◌, ℕ, List, chars}
 use Rattle.phone_values.specs.declared.reading.Reading.{Reading}
 use Rattle.phone_records.specs.declared.loader.Metadata.{Metadata}
 use Rattle.phone_questions.specs.declared.matches.NumberMatch.{NumberMatch}
-use Rattle.phone_own_answers.specs.Matches.{match_numbers}
-use Rattle.phone_own_answers.specs.TextMatches.{AreTextsMatch, IsTextMatch}
+use Rattle.phone_further.specs.Matches.{match_numbers}
+use Rattle.phone_further.specs.TextMatches.{AreTextsMatch, IsTextMatch}
 use Rattle.phone_c_base.specs.Numbers.{IsNumber}
 use Rattle.phone_c_base.specs.declared.number.Number as plain
 use Rattle.phone_c_questions.specs.Matches.{match_number}

@@ -3,7 +3,7 @@ use Rattle.std.specs.Prelude.{◌≡◌, ℕ, List, IsSomeAnd}
 use Rattle.phone_values.specs.Ids.{id_of}
 use Rattle.phone_values.specs.declared.reading.Reading.{Reading}
 use Rattle.phone_records.specs.declared.loader.Metadata.{Metadata}
-use Rattle.phone_short_questions.specs.Services.{is_sms_service}
+use Rattle.phone_further.specs.Services.{is_sms_service}
 use Rattle.phone_c_base.specs.Numbers.{HasNumbers}
 use Rattle.phone_c_base.specs.ShortNumbers.{flag}
 use Rattle.phone_c_base.specs.declared.number.Number as plain

@@ -8,9 +8,9 @@ use Rattle.phone_records.specs.declared.loader.Metadata.{Metadata}
 use Rattle.phone_short.specs.declared.rates.Cost.{Cost}
 use Rattle.phone_short.specs.declared.rates.Cost.TheVariants.{PremiumRate, StandardRate, TollFree}
 use Rattle.phone_short.specs.declared.rates.Cost.TheVariants.{Unknown}
-use Rattle.phone_short_questions.specs.ShortNumbers.{cost_anywhere, is_carrier_anywhere}
-use Rattle.phone_short_questions.specs.ShortNumbers.{is_possible_anywhere, is_valid_anywhere}
-use Rattle.phone_short_questions.specs.ShortNumbers.{short_example, short_example_of_cost}
+use Rattle.phone_further.specs.ShortNumbers.{cost_anywhere, is_carrier_anywhere}
+use Rattle.phone_further.specs.ShortNumbers.{is_possible_anywhere, is_valid_anywhere}
+use Rattle.phone_further.specs.ShortNumbers.{short_example, short_example_of_cost}
 use Rattle.phone_c_base.specs.Numbers.{HasNumbers}
 use Rattle.phone_c_base.specs.ShortNumbers.{cost_number, flag}
 use Rattle.phone_c_base.specs.declared.number.Number as plain

@@ -10,7 +10,7 @@ use phone_c_base::hint::id_of;
 use phone_c_base::number::Number;
 use phone_c_base::parse::write_number;
 use phone_c_base::status::{MEMORY, NO_EXAMPLE, NO_REGION, OK, TOO_SMALL};
-use phone_examples::{example_of_code, invalid_example};
+use phone_further::{example_of_code, invalid_example};
 use phone_plans::Plans;
 
 /// Reads the example of a calling code that serves no region into plain numbers and a buffer.

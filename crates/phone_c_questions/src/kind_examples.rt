@@ -8,7 +8,7 @@ use phone_c_base::asked::kind_of;
 use phone_c_base::number::Number;
 use phone_c_base::parse::write_number;
 use phone_c_base::status::{MEMORY, NO_EXAMPLE, NO_KIND, OK, TOO_SMALL};
-use phone_examples::example_of_kind;
+use phone_further::example_of_kind;
 use phone_plans::Plans;
 
 /// Reads the example of a kind, of whatever region or calling code, into plain numbers and a

@@ -12,7 +12,7 @@ use phone_c_base::asked::kind_of;
 use phone_c_base::buffer::give;
 use phone_c_base::number::{Number, bare, to_phone_number};
 use phone_c_base::status::{BAD_NUMBER, MEMORY, NO_KIND, NOT_UTF8, OK, TOO_SMALL};
-use phone_own_answers::{known_cost, mobile_text_in, possibility_of, reaches_from_abroad};
+use phone_further::{known_cost, mobile_text_in, possibility_of, reaches_from_abroad};
 use phone_plans::Plans;
 use phone_short::Cost;
 use phone_values::Validation;

@@ -1,13 +1,13 @@
 //! How like numbers and texts are, by our own answers.
 ghost use Rattle.std.specs.Prelude.{◌≡◌, ◌⊎◌, ◌↔◌, IsUtf8};
 ghost use Rattle.phone_c_base.specs.Numbers.{AreNoNumber};
-ghost use Rattle.phone_own_answers.specs.Matches.{match_numbers};
+ghost use Rattle.phone_further.specs.Matches.{match_numbers};
 ghost use Rattle.phone_c_questions.specs.OwnMatches.{AreOwnMatch, AreOwnMatchTexts, IsOwnMatchText};
 ghost use Rattle.phone_c_questions.specs.Matches.{match_number};
 
 use phone_c_base::number::{Number, to_phone_number};
 use phone_c_base::status::{BAD_NUMBER, MEMORY, NOT_UTF8, OK};
-use phone_own_answers::match_numbers;
+use phone_further::match_numbers;
 use phone_plans::Plans;
 use phone_questions::NumberMatch;
 use phonenumber::PhoneNumber;
@@ -93,7 +93,7 @@ pub fn text(database: &Plans, number: &Number, bytes: &[u8], text: &[u8], told: 
         Ok(number) => number,
         Err(status) => return status,
     };
-    match phone_own_answers::match_text(database, &number, text) {
+    match phone_further::match_text(database, &number, text) {
         Ok(found) => {
             *told = match_number(found);
             OK
@@ -115,7 +115,7 @@ pub fn texts(database: &Plans, first: &[u8], second: &[u8], told: &mut u32) -> u
     let Ok(second) = std::str::from_utf8(second) else {
         return NOT_UTF8;
     };
-    match phone_own_answers::match_texts(database, first, second) {
+    match phone_further::match_texts(database, first, second) {
         Ok(found) => {
             *told = match_number(found);
             OK

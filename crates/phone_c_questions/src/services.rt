@@ -7,8 +7,8 @@ ghost use Rattle.phone_c_questions.specs.Services.{IsServiceOf};
 use phone_c_base::hint::id_of;
 use phone_c_base::number::{Number, bare};
 use phone_c_base::status::{BAD_NUMBER, MEMORY, NO_REGION, OK};
+use phone_further::is_sms_service;
 use phone_plans::Plans;
-use phone_short_questions::is_sms_service;
 
 /// Whether a number is an SMS service of a region, by the table of these services: 1, else 0. Its
 /// texts are not looked at.

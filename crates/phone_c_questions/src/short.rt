@@ -13,9 +13,9 @@ use phone_c_base::buffer::give;
 use phone_c_base::hint::id_of;
 use phone_c_base::number::{Number, bare};
 use phone_c_base::status::{BAD_NUMBER, MEMORY, NO_EXAMPLE, NO_REGION, NO_WORD, OK, TOO_SMALL};
+use phone_further::{short_example, short_example_of_cost};
 use phone_plans::Plans;
 use phone_short::Cost;
-use phone_short_questions::{short_example, short_example_of_cost};
 use phone_values::country::Id;
 use phonenumber::PhoneNumber;
 use std::alloc::AllocError;
@@ -63,7 +63,7 @@ fn facts_anywhere(
     ensures { IfOk result (λ facts. facts ≡
         facts_anywhere database.now short.now number.now) }
 {
-    let told = phone_short_questions::facts_anywhere(database, short, number)?;
+    let told = phone_further::facts_anywhere(database, short, number)?;
     Ok(FactsAnywhere {
         cost: cost_number(told.cost),
         is_possible: flag(told.is_possible),

@@ -5,7 +5,7 @@ use Rattle.phone_dialling.specs.Original.{IsOriginal}
 use Rattle.phone_dialling.specs.Texts.{text_in}
 use Rattle.phone_engine.specs.Readings.{ReadsBy}
 use Rattle.phone_engine.specs.ReportLines.{IsReportLine}
-use Rattle.phone_own_answers.specs.Answers.{mobile_text_in}
+use Rattle.phone_further.specs.Answers.{mobile_text_in}
 use Rattle.phone_records.specs.declared.loader.Metadata.{Metadata}
 use Rattle.phone_values.specs.Ids.{name}
 use Rattle.phone_values.specs.declared.country.Id.{Id}

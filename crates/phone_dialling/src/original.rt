@@ -262,7 +262,8 @@ fn leaves_own(
     requires { own_prefix database.now m.now ≡ Some prefix.now }
     ensures { IfOk result (λ b. LeavesPrefix database.now m.now layout.now raw.now b) }
 {
-    if stands_behind(database, m, prefix, raw)? {
+    let behind = stands_behind(database, m, prefix, raw)?;
+    if behind {
         Ok(false)
     } else {
         writes_digits(database, m, layout)

@@ -6,7 +6,7 @@ use Rattle.phone_util.specs.declared.possibilities.Possibility.TheVariants as po
 use Rattle.phone_values.specs.declared.reading.Reading.{Reading}
 use Rattle.phone_records.specs.declared.loader.Metadata.{Metadata}
 use Rattle.phone_engine.specs.Facts.{is_valid_by}
-use Rattle.phone_prefixed.specs.Prefixes.{has_prefix}
+use Rattle.phone_matches.specs.Prefixes.{has_prefix}
 use Rattle.phone_values.specs.declared.rules.Rules.{Rules}
 use Rattle.phone_values.specs.declared.rules.Rules.TheVariants.{Library}
 use Rattle.phone_find.specs.declared.leniency.Leniency.{Leniency}

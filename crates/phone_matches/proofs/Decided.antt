@@ -1,8 +1,8 @@
 -- Whether a piece of a text is a number is decided.
 use Rattle.std.proofs.Common.{◌≡◌, ◌⊎◌, inl, inr, ℕ, ◌==◌, Bool, true, false, List, [], ◌∷◌, Option, None, Some, Result, Ok, Err, refl, ap, ap₂, sym, subst, ◌∙◌, true≢false, eqb-true, eq-eqb, unwrap_or}
 use Rattle.std.specs.List.{AllByRecursion}
-use Rattle.phone_groupings.specs.declared.groupings.Strictness.{Strictness}
-use Rattle.phone_groupings.specs.declared.groupings.Strictness.TheVariants.{Exact, Strict}
+use Rattle.phone_matches.specs.declared.groupings.Strictness.{Strictness}
+use Rattle.phone_matches.specs.declared.groupings.Strictness.TheVariants.{Exact, Strict}
 use Rattle.phone_library.specs.Facts.{is_valid_number}
 use Rattle.phone_library.specs.Readings.{ReadsByLibrary}
 use Rattle.phone_matches.proofs.Same.{AreSame, same_if_read, same_region}
@@ -12,7 +12,7 @@ use Rattle.phone_matches.specs.Leniencies
 use Rattle.phone_matches.specs.Leniencies.{IsValidIn, Suffices, is_grouped_well, is_possible}
 use Rattle.phone_matches.specs.Marks.{HasGoodMarks, IsGood, IsSameNumber, announced, main_region}
 use Rattle.phone_matches.specs.Numbers.{IsNumberBy, may_be_number}
-use Rattle.phone_prefixed.specs.Prefixes.{has_prefix}
+use Rattle.phone_matches.specs.Prefixes.{has_prefix}
 use Rattle.phone_matches.specs.declared.leniency.Leniency.{Leniency}
 use Rattle.phone_matches.specs.declared.leniency.Leniency.TheVariants.{ExactGrouping, Possible, StrictGrouping, Valid}
 use Rattle.phone_questions.specs.Letters.{digits_only}

@@ -2,8 +2,11 @@ pub mod Accepted
 pub mod Alone
 pub mod Announced
 pub mod Decided
+pub mod Laid
 pub mod Orders
 pub mod Same
+pub mod Scalars
 pub mod Sufficing
+pub mod Tested
 pub mod There
 pub mod Told

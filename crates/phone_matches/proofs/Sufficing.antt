@@ -1,12 +1,12 @@
 -- When a number suffices.
 use Rattle.std.proofs.Common.{◌≡◌, ◌↔◌, ℕ, Bool, true, false, IsTrue, List, Result, Ok, Err, IfOk, sym, subst, ◌∙◌}
-use Rattle.phone_groupings.specs.declared.groupings.Strictness.TheVariants.{Exact, Strict}
+use Rattle.phone_matches.specs.declared.groupings.Strictness.TheVariants.{Exact, Strict}
 use Rattle.phone_library.specs.Facts.{is_valid_number}
 use Rattle.phone_matches.proofs.Same.{not_true}
 use Rattle.phone_matches.specs.Leniencies
 use Rattle.phone_matches.specs.Leniencies.{IsValidIn, Suffices, is_grouped_well, is_possible}
 use Rattle.phone_matches.specs.Marks.{HasGoodMarks}
-use Rattle.phone_prefixed.specs.Prefixes.{has_prefix}
+use Rattle.phone_matches.specs.Prefixes.{has_prefix}
 use Rattle.phone_matches.specs.declared.leniency.Leniency.{Leniency}
 use Rattle.phone_matches.specs.declared.leniency.Leniency.TheVariants.{ExactGrouping, Possible, StrictGrouping, Valid}
 use Rattle.phone_records.specs.declared.loader.Metadata.{Metadata}

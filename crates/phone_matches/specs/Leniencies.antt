@@ -1,13 +1,13 @@
 -- How strictly the numbers of a text are judged: as libphonenumber's leniencies do.
 use Rattle.std.specs.Prelude.{◌≡◌, ◌&&◌, not, ℕ, Bool, true, false, List}
-use Rattle.phone_groupings.specs.Groupings.{is_grouped}
+use Rattle.phone_matches.specs.Groupings.{is_grouped}
 use Rattle.phone_groups.specs.Slashes.{has_many_slashes}
-use Rattle.phone_groupings.specs.declared.groupings.Strictness.{Strictness}
-use Rattle.phone_groupings.specs.declared.groupings.Strictness.TheVariants.{Exact, Strict}
+use Rattle.phone_matches.specs.declared.groupings.Strictness.{Strictness}
+use Rattle.phone_matches.specs.declared.groupings.Strictness.TheVariants.{Exact, Strict}
 use Rattle.phone_library.specs.Facts.{is_valid_number}
 use Rattle.phone_matches_text.specs.Neighbours.{stands_free}
 use Rattle.phone_matches.specs.Marks.{HasGoodMarks}
-use Rattle.phone_prefixed.specs.Prefixes.{has_prefix}
+use Rattle.phone_matches.specs.Prefixes.{has_prefix}
 use Rattle.phone_matches.specs.declared.leniency.Leniency.{Leniency}
 use Rattle.phone_matches.specs.declared.leniency.Leniency.TheVariants.{ExactGrouping}
 use Rattle.phone_matches.specs.declared.leniency.Leniency.TheVariants.{Possible}

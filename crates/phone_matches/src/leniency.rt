@@ -6,14 +6,13 @@ ghost use Rattle.phone_matches.specs.Leniencies.{IsValidIn, Suffices, is_free};
 ghost use Rattle.phone_matches.specs.Leniencies.{is_grouped_well, is_possible};
 ghost use Rattle.phone_matches.specs.Leniencies.{is_possible_count};
 ghost use Rattle.phone_matches.specs.Marks.{HasGoodMarks};
-ghost use Rattle.phone_prefixed.specs.Prefixes.{has_prefix};
+ghost use Rattle.phone_matches.specs.Prefixes.{has_prefix};
 
 use crate::marks::has_good_marks;
-use phone_groupings::{Strictness, has_many_slashes, is_grouped};
+use crate::{Strictness, has_many_slashes, has_prefix, is_grouped};
 use phone_library::is_valid;
 use phone_matches_text::stands_free;
 use phone_plans::Plans;
-use phone_prefixed::has_prefix;
 use phone_questions::possibility_as;
 use phone_values::{Type, Validation};
 use phonenumber::PhoneNumber;

@@ -26,8 +26,8 @@ use Rattle.phone_records.specs.declared.loader.Metadata.{Metadata}
 use Rattle.phone_territory.specs.Records as territory
 use Rattle.phonenumber.proofs.BackNumbers.{list_all-text_of}
 use Rattle.phonenumber.proofs.BackTexts.{chars-low, low_digits}
-use Rattle.phone_examples.specs.Examples
-use Rattle.phone_examples.specs.Examples.{IsExample, example_in}
+use Rattle.phone_further.specs.Examples
+use Rattle.phone_further.specs.Examples.{IsExample, example_in}
 use Rattle.phone_questions_laws.specs.Fitting.{IsFitting, number_in}
 
 -- ---- the id of a region's territory

@@ -3,7 +3,7 @@ use Rattle.std.proofs.Common.{◌≡◌, ◌||◌, Bool, true, false, refl, ap�
 use Rattle.phone_values.specs.Numbers.{text_of}
 use Rattle.phone_values.specs.declared.reading.Reading.{Reading}
 use Rattle.phone_questions_laws.proofs.Swaps.{match_of-swap}
-use Rattle.phone_own_answers.specs.Matches.{if_shared, is_long_end, match_numbers}
+use Rattle.phone_further.specs.Matches.{if_shared, is_long_end, match_numbers}
 
 or-swap : (a b : Bool) → (a || b) ≡ (b || a)
 or-swap true true = refl

@@ -12,9 +12,9 @@ use Rattle.phone_records.specs.declared.loader.Metadata.{Metadata}
 use Rattle.phone_questions.specs.TextMatches.{IsBare, bare_number}
 use Rattle.phone_questions.specs.declared.matches.NumberMatch.{NumberMatch}
 use Rattle.phone_questions.specs.declared.matches.NumberMatch.TheVariants.{NotANumber}
-use Rattle.phone_own_answers.specs.Matches.{match_numbers}
-use Rattle.phone_own_answers.specs.TextMatches
-use Rattle.phone_own_answers.specs.TextMatches.{AreBareMatch, AreTextsMatch, IsTextMatch, match_bare}
+use Rattle.phone_further.specs.Matches.{match_numbers}
+use Rattle.phone_further.specs.TextMatches
+use Rattle.phone_further.specs.TextMatches.{AreBareMatch, AreTextsMatch, IsTextMatch, match_bare}
 use Rattle.phone_questions_laws.proofs.OwnSwaps.{match_numbers-swap}
 
 -- a refusal is for want of a calling code, or for another reason

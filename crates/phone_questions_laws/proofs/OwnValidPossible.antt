@@ -14,7 +14,7 @@ use Rattle.phone_territory.specs.Records.{allows_length}
 use Rattle.phone_questions.specs.Belonging.{own_territory}
 use Rattle.phone_questions.specs.Possible.{verdict_in}
 use Rattle.phone_questions_laws.proofs.ValidPossible.{by_general}
-use Rattle.phone_own_answers.specs.Possible.{possibility_of, telling_territory}
+use Rattle.phone_further.specs.Possible.{possibility_of, telling_territory}
 
 module _ (db : List Metadata) (n : Reading) (m : Metadata) where
   told : is_valid_number db n ≡ true → own_territory db n ≡ Some m → telling_territory db n ≡ Some m

@@ -11,7 +11,7 @@ use Rattle.phone_library_back.specs.Plain.{IsDialledInside}
 use Rattle.phone_read.specs.Hints.{hinted}
 use Rattle.phone_records.specs.declared.loader.Metadata.{Metadata}
 use Rattle.phone_territory.specs.Records.{code_of}
-use Rattle.phone_examples.specs.Examples.{example_in}
+use Rattle.phone_further.specs.Examples.{example_in}
 
 -- a national number of a territory
 abbrev pub number_in : Metadata → National → Reading

@@ -1,4 +1,4 @@
-//! What holds of examples (`phone_examples`). These functions do nothing; their contracts are the
+//! What holds of examples (`phone_further`). These functions do nothing; their contracts are the
 //! statements.
 ghost use Rattle.std.specs.Prelude.{◌≡◌, List, Ok, Some, false};
 ghost use Rattle.phone_values.specs.declared.country.Id.{Id};
@@ -6,9 +6,9 @@ ghost use Rattle.phone_values.specs.declared.kind.«Type».{«Type»};
 ghost use Rattle.phone_values.specs.declared.reading.Reading.{Reading};
 ghost use Rattle.phone_library.specs.Facts.{is_valid_number, kind_of_number, region_of_number};
 ghost use Rattle.phone_records.specs.declared.loader.Metadata as loader;
-ghost use Rattle.phone_examples.specs.Examples.{IsExample, example_in};
+ghost use Rattle.phone_further.specs.Examples.{IsExample, example_in};
 ghost use Rattle.phone_questions_laws.specs.Fitting.{IsFitting};
-ghost use Rattle.phone_examples.specs.Invalid.{IsInvalidExample};
+ghost use Rattle.phone_further.specs.Invalid.{IsInvalidExample};
 
 /// The example of a number that isn't valid isn't.
 pub fn invalid_is_invalid()

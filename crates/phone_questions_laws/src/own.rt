@@ -1,4 +1,4 @@
-//! What holds of libphonenumber's area codes, and of our own answers (`phone_own_answers`). These
+//! What holds of libphonenumber's area codes, and of our own answers (`phone_further`). These
 //! functions do nothing; their contracts are the statements.
 ghost use Rattle.std.specs.Prelude.{◌≡◌, ℕ, List, true, Some, chars};
 ghost use Rattle.phone_values.specs.Numbers.{text_of};
@@ -15,9 +15,9 @@ ghost use Rattle.phone_questions.specs.Belonging.{own_territory};
 ghost use Rattle.phone_questions.specs.declared.matches.NumberMatch.{NumberMatch};
 ghost use Rattle.phone_questions_laws.specs.AreaCodes.{IsBeginning, KeepsDigits};
 ghost use Rattle.phone_questions_laws.specs.AreaCodes.{destination_digits};
-ghost use Rattle.phone_own_answers.specs.Matches.{match_numbers};
-ghost use Rattle.phone_own_answers.specs.Possible.{possibility_of};
-ghost use Rattle.phone_own_answers.specs.TextMatches.{AreTextsMatch};
+ghost use Rattle.phone_further.specs.Matches.{match_numbers};
+ghost use Rattle.phone_further.specs.Possible.{possibility_of};
+ghost use Rattle.phone_further.specs.TextMatches.{AreTextsMatch};
 
 use phone_library_laws::facts;
 use phone_library_text::laws as text_laws;

@@ -1,4 +1,5 @@
 //! The answer to a line, by the library that knows its call.
+use crate::values;
 use anyhow::{Result, anyhow};
 use phone_meta::Database;
 use replay_base::table::Row;
@@ -52,7 +53,7 @@ fn without_database<R: Files + AllocGlobal>(rt: &R, row: &Row) -> Result<Option<
     if let Some(found) = replay_numbers::without_database(rt.alloc(), row)? {
         return Ok(Some(found));
     }
-    if let Some(found) = replay_values::of_value(rt.alloc(), row)? {
+    if let Some(found) = values::of_value(rt.alloc(), row)? {
         return Ok(Some(found));
     }
     replay_util::without_database(rt, row)

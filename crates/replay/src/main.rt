@@ -15,7 +15,12 @@
 
 mod alone;
 mod calls;
+mod copies;
+mod devices;
+mod errors;
+mod forms;
 mod told;
+mod values;
 mod whole;
 
 use anyhow::Result;

@@ -2,7 +2,7 @@
 use crate::given::{parts, region};
 use anyhow::Result;
 use phone_engine::{Engine, Rules};
-use phone_examples::{example_of_code, example_of_kind, invalid_example};
+use phone_further::{example_of_code, example_of_kind, invalid_example};
 use phone_meta::Database;
 use phone_util::example;
 use phone_values::Type;

@@ -1,8 +1,8 @@
 //! Questions on numbers.
 use crate::given::{number, parts, yes};
 use anyhow::Result;
+use phone_further::{match_numbers, possibility_of, reaches_from_abroad};
 use phone_meta::Database;
-use phone_own_answers::{match_numbers, possibility_of, reaches_from_abroad};
 use phone_questions::{
     NumberMatch, area_length, destination_length, is_dialled_from_abroad, is_geographical,
     is_valid_for, match_of, match_text, match_texts, national_with_carrier,
@@ -21,7 +21,7 @@ pub fn answer(alloc: Global, row: &Row, db: &Database) -> Result<Option<String>>
         return Ok(Some(match_word(alloc, found)?));
     }
     if row.argument(1) == "own-match-texts" {
-        let found = phone_own_answers::match_texts(db, row.argument(2), row.argument(3))?;
+        let found = phone_further::match_texts(db, row.argument(2), row.argument(3))?;
         return Ok(Some(match_word(alloc, found)?));
     }
     if row.argument(1) == "keep" {
@@ -152,7 +152,7 @@ fn match_second_text(alloc: Global, db: &Database, n: &PhoneNumber, text: &str) 
 
 /// How like a number and a text are, by our own answer.
 fn own_match_text(alloc: Global, db: &Database, n: &PhoneNumber, text: &str) -> Result<String> {
-    match_word(alloc, phone_own_answers::match_text(db, n, text)?)
+    match_word(alloc, phone_further::match_text(db, n, text)?)
 }
 
 /// The word for how like two numbers are.

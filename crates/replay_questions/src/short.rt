@@ -1,13 +1,12 @@
 //! Questions on short numbers, which a second database tells of.
 use crate::given::{number, region, shown, yes};
 use anyhow::{Result, anyhow};
-use phone_meta::Database;
-use phone_own_answers::known_cost;
-use phone_short::Cost;
-use phone_short_questions::{
+use phone_further::{
     cost_anywhere, is_carrier_anywhere, is_possible_anywhere, is_sms_service, is_valid_anywhere,
-    short_example, short_example_of_cost,
+    known_cost, short_example, short_example_of_cost,
 };
+use phone_meta::Database;
+use phone_short::Cost;
 use replay_base::table::Row;
 use replay_base::words::said;
 use std::alloc::Global;

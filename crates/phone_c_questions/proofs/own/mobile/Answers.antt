@@ -1,5 +1,5 @@
 use Rattle.std.proofs.Common.{◌≡◌, ℕ, ◌==◌, not, List, rules, ap, ◌∙◌}
-use Rattle.phone_own_answers.specs.Answers.{mobile_text_in}
+use Rattle.phone_further.specs.Answers.{mobile_text_in}
 use Rattle.phone_c_base.specs.Numbers.{IsNumber}
 use Rattle.phone_c_questions.proofs.Mobiles.{mobile_told}
 use Rattle.phone_c_questions.proofs.own.mobile.Goals as goal

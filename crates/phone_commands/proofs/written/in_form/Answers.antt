@@ -1,5 +1,5 @@
 use Rattle.std.proofs.Common.{◌≡◌, IfOk, string_bytes, subst, true}
-use Rattle.phone_own_answers.specs.Answers.{mobile_text_in}
+use Rattle.phone_further.specs.Answers.{mobile_text_in}
 use Rattle.phone_commands.proofs.written.in_form.Goals as goal
 
 pub returns-in-Mobile : goal.returns-in-Mobile

@@ -1,4 +1,0 @@
-pub mod Codes
-pub mod Least
-pub mod Read
-pub mod Tried

@@ -1,0 +1,9 @@
+pub mod Among
+pub mod Codes
+pub mod InTurn
+pub mod KnownCosts
+pub mod Least
+pub mod Plain
+pub mod Read
+pub mod TextReads
+pub mod Tried

@@ -1,0 +1,13 @@
+use Rattle.std.proofs.Common.{arith}
+use Rattle.phone_rules.proofs.Results.{ok_again}
+use Rattle.phone_further.specs.Lowest.{example_of_code, serves}
+use Rattle.phone_further.proofs.Least.{code_link, some_lowest}
+use Rattle.phone_further.proofs.lowest.of_lowest_code.Goals as goal
+
+pub returns : goal.returns
+returns c =
+    let db = c.args.database.now in
+    let k = c.args.kind in
+    ok_again c.code_example.result _ _
+    (λ found e. some_lowest (example_of_code db k) (serves db k) db (code_link db k) c.args.code _ (omega (arith, c.ranges.code.fits)) c.requires e)
+    c.code_example.ensures

@@ -1,0 +1,11 @@
+pub mod Answers
+pub mod Costs
+pub mod Examples
+pub mod Invalid
+pub mod Lowest
+pub mod Matches
+pub mod Possible
+pub mod Services
+pub mod ShortNumbers
+pub mod ShortRecords
+pub mod TextMatches

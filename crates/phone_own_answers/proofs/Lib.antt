@@ -1,2 +1,0 @@
-pub mod KnownCosts
-pub mod TextReads

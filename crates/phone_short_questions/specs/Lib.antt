@@ -1,3 +1,0 @@
-pub mod Services
-pub mod ShortNumbers
-pub mod ShortRecords
