@@ -1,0 +1,12 @@
+pub mod Beginnings
+pub mod BehindScheme
+pub mod Dialled
+pub mod Fits
+pub mod Fronts
+pub mod Keys
+pub mod OwnSwaps
+pub mod OwnTextSwaps
+pub mod OwnValidPossible
+pub mod Swaps
+pub mod TextSwaps
+pub mod ValidPossible

@@ -1,5 +1,0 @@
-use Rattle.phone_questions_laws.proofs.Dialled.{mobile_abroad}
-use Rattle.phone_questions_laws.proofs.dialling.dialled_abroad.Goals as goal
-
-pub returns : goal.returns
-returns c = mobile_abroad

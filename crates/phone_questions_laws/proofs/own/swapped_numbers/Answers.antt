@@ -1,5 +1,0 @@
-use Rattle.phone_questions_laws.proofs.OwnSwaps.{match_numbers-swap}
-use Rattle.phone_questions_laws.proofs.own.swapped_numbers.Goals as goal
-
-pub returns : goal.returns
-returns c = match_numbers-swap

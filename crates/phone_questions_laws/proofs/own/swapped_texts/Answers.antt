@@ -1,5 +1,0 @@
-use Rattle.phone_questions_laws.proofs.OwnTextSwaps.{texts-swap}
-use Rattle.phone_questions_laws.proofs.own.swapped_texts.Goals as goal
-
-pub returns : goal.returns
-returns c db t u x h = texts-swap db c.some_written.ensures t u x h

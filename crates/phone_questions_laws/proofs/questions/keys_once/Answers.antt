@@ -1,5 +1,0 @@
-use Rattle.phone_questions_laws.proofs.Keys.{with_keys-again}
-use Rattle.phone_questions_laws.proofs.questions.keys_once.Goals as goal
-
-pub returns : goal.returns
-returns c = with_keys-again

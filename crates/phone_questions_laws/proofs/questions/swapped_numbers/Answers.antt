@@ -1,5 +1,0 @@
-use Rattle.phone_questions_laws.proofs.Swaps.{match_of-swap}
-use Rattle.phone_questions_laws.proofs.questions.swapped_numbers.Goals as goal
-
-pub returns : goal.returns
-returns c = match_of-swap
