@@ -34,11 +34,9 @@ module _ (db : List Metadata) (n : Reading) (t : List ℕ) where
     pub exact_of : Suffices db alternates n t ExactGrouping → IsValidIn db n t × (is_grouped_well db alternates Exact n t ≡ true)
     exact_of (Leniencies.exact v g) = (v, g)
 
-    pub if_possible : {E : Type 0} (l : Leniency) → l ≡ Possible → (r : Result Bool E) → IfOk r (λ b. b ≡ is_possible db n) →
-        IfOk r (λ b. IsTrue b ↔ Suffices db alternates n t l)
-    if_possible l is (Ok b) e =
+    pub if_possible : (l : Leniency) → l ≡ Possible → (b : Bool) → b ≡ is_possible db n → IsTrue b ↔ Suffices db alternates n t l
+    if_possible l is b e =
         subst (λ (k : Leniency). IsTrue b ↔ Suffices db alternates n t k) (sym is) (λ yes. Leniencies.possible (sym e ∙ yes), λ s. e ∙ possible_of s)
-    if_possible l is (Err f) e = e
 
     pub if_valid_in : {E : Type 0} (l : Leniency) → l ≡ Valid → (r : Result Bool E) → IfOk r (λ b. IsTrue b ↔ IsValidIn db n t) →
         IfOk r (λ b. IsTrue b ↔ Suffices db alternates n t l)

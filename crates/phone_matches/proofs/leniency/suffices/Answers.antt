@@ -1,4 +1,4 @@
-use Rattle.std.proofs.Common.{[], Ok, chars, unwrap_or}
+use Rattle.std.proofs.Common.{[], chars, unwrap_or}
 use Rattle.std.specs.Option.{option_copied}
 use Rattle.phone_matches.proofs.Sufficing.{if_exact, if_possible, if_strict, if_valid_in}
 use Rattle.phone_matches.proofs.leniency.suffices.Goals as goal
@@ -6,7 +6,7 @@ use Rattle.phone_matches.proofs.leniency.suffices.Goals as goal
 pub returns-in-Possible : goal.returns-in-Possible
 returns-in-Possible c =
     if_possible c.args.db.now c.args.number.now (chars c.args.text.now) (unwrap_or (option_copied c.args.alternates) []) c.args.leniency c.in-Possible.is
-    (Ok c.is_possible.result) c.is_possible.ensures
+    c.is_possible.result c.is_possible.ensures
 
 pub returns-in-Valid : goal.returns-in-Valid
 returns-in-Valid c =
