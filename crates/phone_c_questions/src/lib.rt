@@ -2,8 +2,8 @@
 //! numbers and texts are, and of what a text is as it is dialled; how numbers are written so that
 //! they can be dialled, with the letters in which they were written too, and what they are as short
 //! numbers; examples; a number as it is typed; the numbers of a running text; and our own answers
-//! where libphonenumber's mislead. `phone_c` has the calls themselves. All of them are answered by
-//! libphonenumber's rules, whatever the rules of a handle.
+//! where libphonenumber's mislead. `phone_c` has the calls themselves. All of them read texts by
+//! libphonenumber's rules, whatever the rules of a handle, and all but our own answer by them.
 #![tactic(auto)]
 
 pub mod carriers;
