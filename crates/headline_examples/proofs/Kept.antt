@@ -9,7 +9,7 @@ use Rattle.phone_library.specs.Stripping.{left_by_prefix, strip, stripped, untou
 use Rattle.phone_library_laws.specs.Agreement.{IsStrippedAlike}
 use Rattle.phone_read.specs.Hints.{Coded}
 use Rattle.phone_records.specs.declared.loader.Metadata.{Metadata}
-use Rattle.phone_rules.specs.Strips.{Stripped}
+use Rattle.phone_read.specs.Strips.{Stripped}
 
 one_way : {X : Type 0} (b : Bool) (x : X) → (if b then x else x) ≡ x
 one_way true x = refl

@@ -4,7 +4,7 @@ ghost use Rattle.phone_values.specs.declared.country.Id.TheVariants as id;
 ghost use Rattle.phone_library.specs.Facts.{is_valid_number, territory_of_number};
 ghost use Rattle.phone_library_laws.specs.Lengths.{is_ascending};
 ghost use Rattle.phone_plans.specs.CodeLookUps.{first_of, territories};
-ghost use Rattle.phone_rules.specs.Verdicts.{general_lengths};
+ghost use Rattle.phone_read.specs.Verdicts.{general_lengths};
 ghost use Rattle.phone_short.specs.Regions.{is_emergency, is_valid_short, short_kind};
 ghost use Rattle.phone_short.specs.declared.kind.ShortKind.TheVariants as kind;
 ghost use Rattle.phone_util.specs.Possibilities.{has_listed_kind};

@@ -14,7 +14,7 @@ use Rattle.phone_csv.specs.Formats.{Record}
 use Rattle.phone_engine.specs.Facts.{kind_by, region_by}
 use Rattle.phone_engine.proofs.OneReading.{reading_same}
 use Rattle.phone_languages.specs.Told.{IsTextIn, told as text_told}
-use Rattle.phone_maps.specs.Maps.{digits_of}
+use Rattle.phone_places.specs.Maps.{digits_of}
 use Rattle.phone_places.specs.Areas.{IsOther, behind_token}
 use Rattle.phone_prefixes.specs.Tables.{Entry, IsLongest}
 use Rattle.phone_values.specs.Numbers.{text_of}

@@ -30,7 +30,7 @@ use Rattle.phone_answers.specs.declared.extra.Told.TheVariants as kind
 use Rattle.phone_languages.specs.Told.{IsTextIn, told as text_told}
 use Rattle.phone_library_laws.proofs.ReadOnce.{reading_some}
 use Rattle.phone_library_text.proofs.WrittenSome.{some_written}
-use Rattle.phone_maps.specs.Maps.{digits_of}
+use Rattle.phone_places.specs.Maps.{digits_of}
 use Rattle.phone_places.specs.Areas.{IsOther, behind_token}
 use Rattle.phone_values.specs.Numbers.{text_of}
 use Rattle.phone_values.specs.declared.country.Id.TheVariants.{AR}

@@ -16,7 +16,7 @@ use Rattle.phone_plans.specs.Records.{last_with}
 use Rattle.phone_records.specs.declared.loader.Metadata.{Metadata}
 use Rattle.phone_prefixes.specs.Tables.{Entry, IsLongest, NoneBegins}
 use Rattle.phone_languages.specs.Told.{IsTold as IsTextTold}
-use Rattle.phone_maps.specs.Maps.{code_digits, digits_of, has_carrier, is_first, is_geographical}
+use Rattle.phone_places.specs.Maps.{code_digits, digits_of, has_carrier, is_first, is_geographical}
 use Rattle.phone_places.specs.Areas.{IsOther, behind_token}
 use Rattle.phone_doubts.specs.Doubts.{IsDoubted}
 use Rattle.phone_engine.specs.Facts.{kind_by, region_by}

@@ -3,7 +3,7 @@ use Rattle.std.specs.Prelude.{ℕ, List, [], chars, codes, encode_utf8_all, take
 use Rattle.phone_values.specs.Numbers.{text_of}
 use Rattle.phone_values.specs.declared.reading.Reading.{Reading}
 use Rattle.phone_values.specs.declared.rules.Rules.{Rules}
-use Rattle.phone_maps.specs.Maps.{code_digits}
+use Rattle.phone_places.specs.Maps.{code_digits}
 use Rattle.phone_questions.specs.Groups.{area_length}
 use Rattle.phone_records.specs.declared.loader.Metadata.{Metadata}
 use Rattle.phone_util.specs.Possibilities.{possibility_of}

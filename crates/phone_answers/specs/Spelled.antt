@@ -4,7 +4,7 @@ use Rattle.std.specs.Prelude.{Option, None, Some}
 use Rattle.phone_values.specs.declared.reading.Reading.{Reading}
 use Rattle.phone_csv.specs.Formats.{Record}
 use Rattle.phone_records.specs.declared.loader.Metadata.{Metadata}
-use Rattle.phone_maps.specs.Maps.{digits_of}
+use Rattle.phone_places.specs.Maps.{digits_of}
 use Rattle.phone_engine.specs.Facts.{is_valid_by, kind_by, region_by}
 use Rattle.phone_values.specs.declared.rules.Rules.{Rules}
 use Rattle.phone_answers.specs.Answers.{refused_answer}

@@ -17,5 +17,5 @@ pub use answer::{Answer, Known, answer_to, push_answer};
 pub use extra::{Extra, Subject, Told, push_told, tells_doubts};
 pub use field::{ANSWER_WIDTH, Field};
 pub use parts::Part;
-pub use phone_maps::Owner;
+pub use phone_places::Owner;
 pub use split::{Shown, Which};

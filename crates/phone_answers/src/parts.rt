@@ -1,7 +1,7 @@
 //! Parts of a number that columns and objects tell beside its answer.
 ghost use Rattle.std.specs.Prelude.{◌≡◌, IfOk, chars, encode_utf8_all, string_bytes, take};
 ghost use Rattle.std.specs.Cow.{cow_str_bytes};
-ghost use Rattle.phone_maps.specs.Maps.{code_digits};
+ghost use Rattle.phone_places.specs.Maps.{code_digits};
 ghost use Rattle.phone_values.specs.Numbers.{text_of as national_text};
 ghost use Rattle.phone_answers.specs.Parts.{area_code, part_told, possibility_told};
 ghost use Rattle.phone_answers.specs.Parts.{possibility_word};

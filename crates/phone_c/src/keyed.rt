@@ -12,7 +12,7 @@ use phone_c_questions::typing::{caret, show};
 use std::alloc::Global;
 
 /// Writes what libphonenumber's formatter shows of a number while it is typed, as
-/// `phone_keyed::Keyed::typed` gives it, once the characters of this text are. A digit of any
+/// `phone_typed::Keyed::typed` gives it, once the characters of this text are. A digit of any
 /// script is the key of its value, and a plus sign is one before all else; after any other
 /// character the text is shown as it was typed. The hint is the region that digits without a plus
 /// sign are dialled in, as `phone_report` takes it. Nothing of it is kept for the next call.

@@ -4,7 +4,7 @@ use Rattle.std.specs.Prelude.{Option, None, Some}
 use Rattle.phone_languages.specs.Atlases.{IsCarrier}
 use Rattle.phone_languages.specs.declared.atlas.Atlas as lent
 use Rattle.phone_library.specs.Facts.{kind_of_number}
-use Rattle.phone_maps.specs.Maps.{code_digits, digits_of, has_carrier}
+use Rattle.phone_places.specs.Maps.{code_digits, digits_of, has_carrier}
 use Rattle.phone_places.specs.Carriers.{is_portable}
 use Rattle.phone_places.specs.Countries.{country_name}
 use Rattle.phone_places.specs.Descriptions.{IsDescribed}

@@ -3,7 +3,7 @@ ghost use Rattle.std.specs.Prelude.{◌≡◌, ◌↔◌, IfOk};
 ghost use Rattle.phone_c_base.specs.Buffers.{IsTooLongA, IsWrittenA};
 ghost use Rattle.phone_c_base.specs.Numbers.{AreNoNumber};
 ghost use Rattle.phone_c_base.specs.PrefixTables.{IsTableClosed, IsTableKept};
-ghost use Rattle.phone_maps.specs.Maps.{digits_of};
+ghost use Rattle.phone_places.specs.Maps.{digits_of};
 ghost use Rattle.phone_places.specs.Zones.{AreZones};
 ghost use Rattle.phone_c_places.specs.Places.{AreZonesByKind, AreZonesOf, IsAsAsked};
 

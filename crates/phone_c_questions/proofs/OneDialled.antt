@@ -9,7 +9,7 @@ use Rattle.phone_records.specs.declared.loader.Metadata.{Metadata}
 use Rattle.phone_short.specs.declared.rates.Cost.{Cost}
 use Rattle.phone_further.specs.Services.{is_sms_service}
 use Rattle.phone_dialling.specs.Abroad.{dialled_text, if_some}
-use Rattle.phone_dialling.specs.OwnLayouts.{text_by_layouts}
+use Rattle.phone_further.specs.OwnLayouts.{text_by_layouts}
 use Rattle.phone_dialling.specs.Texts.{text_in}
 use Rattle.phone_c_base.proofs.OneAnswers.{one_number}
 use Rattle.phone_c_base.specs.Answers.{mode_number}

@@ -9,11 +9,11 @@ use Rattle.phone_plans.specs.CodeLookUps.{first_of, territories}
 use Rattle.phone_records.specs.declared.loader.Metadata.{Metadata}
 use Rattle.phone_dialling.specs.Abroad.{if_some}
 use Rattle.phone_questions.specs.Regions.{territory_of}
-use Rattle.phone_letters.specs.Dialled
-use Rattle.phone_letters.specs.Dialled.{IsDialled, with_letters}
-use Rattle.phone_letters.specs.Kept.{written}
-use Rattle.phone_letters.specs.Lettered
-use Rattle.phone_letters.specs.Lettered.{IsKept, IsLettered, abroad_letters, home_letters}
+use Rattle.phone_dialling.specs.Dialled
+use Rattle.phone_dialling.specs.Dialled.{IsDialled, with_letters}
+use Rattle.phone_dialling.specs.Kept.{written}
+use Rattle.phone_dialling.specs.Lettered
+use Rattle.phone_dialling.specs.Lettered.{IsKept, IsLettered, abroad_letters, home_letters}
 use Rattle.phone_c_base.proofs.OneAnswers.{one_number}
 use Rattle.phone_c_base.specs.Hints.{hint_of}
 use Rattle.phone_c_base.specs.Numbers.{IsNumber}

@@ -7,8 +7,8 @@ use Rattle.phone_matches.specs.Numbers.{AreNumbersBy}
 use Rattle.phone_matches.specs.declared.leniency.Leniency.{Leniency}
 use Rattle.phone_matches.specs.declared.leniency.Leniency.TheVariants.{ExactGrouping, Possible}
 use Rattle.phone_matches.specs.declared.leniency.Leniency.TheVariants.{StrictGrouping, Valid}
-use Rattle.phone_matches_search.specs.Told.{AllMatchThere, told_matches}
-use Rattle.phone_matches_search.specs.declared.places.Match.{Match}
+use Rattle.phone_matches.specs.Told.{AllMatchThere, told_matches}
+use Rattle.phone_matches.specs.declared.places.Match.{Match}
 use Rattle.phone_c_base.specs.declared.found.Place.{Place}
 
 -- a leniency by its number

@@ -6,7 +6,7 @@ use Rattle.phone_values.specs.declared.reading.Reading.{Reading}
 use Rattle.phone_plans.specs.Records.{last_with}
 use Rattle.phone_records.specs.declared.loader.Format.{Format}
 use Rattle.phone_records.specs.declared.loader.Metadata.{Metadata}
-use Rattle.phone_dialling.specs.OwnLayouts.{text_by_layouts}
+use Rattle.phone_further.specs.OwnLayouts.{text_by_layouts}
 use Rattle.phone_c_base.specs.Answers.{mode_number}
 use Rattle.phone_c_base.specs.Numbers.{IsNumber}
 use Rattle.phone_c_base.specs.declared.number.Number as plain

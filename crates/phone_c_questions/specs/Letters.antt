@@ -5,8 +5,8 @@ use Rattle.phone_values.specs.declared.reading.Reading.{Reading}
 use Rattle.phone_parts.specs.Cores.{IsCore}
 use Rattle.phone_records.specs.declared.loader.Metadata.{Metadata}
 use Rattle.phone_dialling.specs.Abroad.{if_some}
-use Rattle.phone_letters.specs.Dialled.{IsDialled}
-use Rattle.phone_letters.specs.Lettered.{IsLettered}
+use Rattle.phone_dialling.specs.Dialled.{IsDialled}
+use Rattle.phone_dialling.specs.Lettered.{IsLettered}
 use Rattle.phone_c_base.specs.Hints.{UnderHint}
 use Rattle.phone_c_base.specs.Numbers.{IsNumber}
 use Rattle.phone_c_base.specs.declared.number.Number as plain

@@ -2,9 +2,9 @@
 use Rattle.std.specs.Prelude.{◌≡◌, ℕ, List, Option, chars}
 use Rattle.phone_values.specs.declared.country.Id.{Id}
 use Rattle.phone_records.specs.declared.loader.Metadata.{Metadata}
-use Rattle.phone_keyed.specs.Carets.{caret}
-use Rattle.phone_keyed.specs.Fields.{Field, empty}
-use Rattle.phone_keyed.specs.Steps.{typed_all}
+use Rattle.phone_typed.specs.Carets.{caret}
+use Rattle.phone_typed.specs.KeyedFields.{Field, empty}
+use Rattle.phone_typed.specs.Steps.{typed_all}
 
 -- the field in which the characters of a text are typed, under a hint
 abbrev pub field_of : List Metadata → Option Id → (text : List ℕ) → Field

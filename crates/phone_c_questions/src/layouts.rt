@@ -8,7 +8,7 @@ use crate::modes::mode_of;
 use phone_c_base::buffer::give;
 use phone_c_base::number::{Number, to_phone_number};
 use phone_c_base::status::{BAD_NUMBER, MEMORY, NO_MODE, OK, TOO_SMALL};
-use phone_dialling::text_by_layouts;
+use phone_further::text_by_layouts;
 use phone_plans::{Format, Plans};
 
 /// The id of the record that has the layouts.

@@ -10,7 +10,7 @@ use phone_c_base::buffer::give;
 use phone_c_base::hint::hint_of;
 use phone_c_base::number::{Number, to_phone_number};
 use phone_c_base::status::{BAD_NUMBER, MEMORY, NO_REGION, NOT_UTF8, OK, TOO_SMALL};
-use phone_letters::{dialled_with_letters, text_with_letters};
+use phone_dialling::{dialled_with_letters, text_with_letters};
 use phone_parts::helper::extract;
 use phone_plans::Plans;
 

@@ -6,8 +6,8 @@ ghost use Rattle.phone_c_questions.specs.Typing.{IsCaret, IsShown};
 
 use phone_c_base::buffer::give;
 use phone_c_base::status::{MEMORY, NOT_UTF8, OK, TOO_SMALL};
-use phone_keyed::Keyed;
 use phone_plans::Plans;
+use phone_typed::Keyed;
 use phone_values::country::Id;
 
 /// Shows a text in a buffer as it is typed, under a hint.

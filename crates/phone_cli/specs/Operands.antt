@@ -4,7 +4,7 @@ use Rattle.std.specs.Prelude.{◌&&◌, ◌≡◌, ◌==◌, if◌then◌else◌
 use Rattle.std.specs.List.{filter_map, list_any}
 use Rattle.std.specs.Option.{option_map_or}
 use Rattle.std.specs.Str.{bytes_eq}
-use Rattle.phone_countries.specs.Ids.{id_in}
+use Rattle.phone_places.specs.Ids.{id_in}
 use Rattle.phone_values.specs.declared.country.Id.{Id}
 use Rattle.phone_values.specs.declared.rules.Rules.{Rules}
 use Rattle.phone_values.specs.declared.rules.Rules.TheVariants.{Library}

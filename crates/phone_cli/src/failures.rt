@@ -7,7 +7,7 @@ ghost use Rattle.phone_engine.specs.Programs.{IsTold};
 use crate::say::{say, say_columns, say_taken};
 use itoa::Buffer;
 use phone_commands::{Failure, JobError, NoColumns, is_standard};
-use phone_countries::CountriesError;
+use phone_places::CountriesError;
 use phone_device::ByteSink;
 use phone_prefixes::{LineFault, PrefixesError};
 use phone_table::{Column, ColumnError, FirstError, RunError, TableError};

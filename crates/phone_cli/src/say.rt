@@ -9,7 +9,7 @@ use crate::tool::Reading;
 use csv::ByteRecord;
 use itoa::Buffer;
 use phone_commands::{Customers, FirstLines, LinePlace, Strays};
-use phone_countries::Entry;
+use phone_places::Entry;
 use phone_device::{ByteSink, Fault, write_all};
 use phone_table::{Countries, Tally};
 use phone_words::{Call, Command, Why, WordError, value_word};

@@ -16,9 +16,9 @@ use Rattle.phone_matches.proofs.Accepted.{all_accepted}
 use Rattle.phone_matches.specs.Numbers.{AreNumbersBy, IsNumberBy}
 use Rattle.phone_matches.specs.Orders as orders
 use Rattle.phone_matches.specs.declared.leniency.Leniency.{Leniency}
-use Rattle.phone_matches_search.specs.Searches.{IsAccepted, Matched}
-use Rattle.phone_matches_search.specs.Told.{told_matches}
-use Rattle.phone_matches_search.specs.declared.places.Match.{Match}
+use Rattle.phone_matches.specs.Searches.{IsAccepted, Matched}
+use Rattle.phone_matches.specs.Told.{told_matches}
+use Rattle.phone_matches.specs.declared.places.Match.{Match}
 use Rattle.phone_records.specs.declared.loader.Metadata.{Metadata}
 use Rattle.phone_values.specs.declared.country.Id.{Id}
 use Rattle.phone_values.specs.declared.reading.Reading.{Reading}

@@ -4,7 +4,7 @@ use Rattle.std.specs.Prelude.{ℕ, Bool, false, true, List, [], ◌∷◌, ◌++
 use Rattle.std.specs.Prelude.{Some, is_some, unwrap_or}
 use Rattle.phone_commands.specs.declared.columns.LoadedColumn.{LoadedColumn}
 use Rattle.phone_commands.specs.declared.columns.Wanted.{Wanted}
-use Rattle.phone_maps.specs.declared.maps.Owner.TheVariants as owner
+use Rattle.phone_places.specs.declared.maps.Owner.TheVariants as owner
 use Rattle.phone_answers.specs.declared.extra.Extra.{Extra}
 use Rattle.phone_answers.specs.declared.extra.Told.{Told}
 use Rattle.phone_answers.specs.declared.extra.Told.TheVariants.{Area, Carrier, Doubts, Part}

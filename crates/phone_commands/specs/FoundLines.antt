@@ -18,8 +18,8 @@ use Rattle.phone_commands.specs.declared.finder.FoundForm.{FoundForm}
 use Rattle.phone_commands.specs.declared.finder.FoundForm.TheVariants as form
 use Rattle.phone_commands.specs.declared.finder.Matching.{Matching}
 use Rattle.phone_matches.specs.Numbers.{AreNumbersBy}
-use Rattle.phone_matches_search.specs.Told.{AllMatchThere, told_matches}
-use Rattle.phone_matches_search.specs.declared.places.Match.{Match}
+use Rattle.phone_matches.specs.Told.{AllMatchThere, told_matches}
+use Rattle.phone_matches.specs.declared.places.Match.{Match}
 use Rattle.phone_plans.specs.CodeLookUps.{first_of, territories}
 use Rattle.phone_print.specs.Tabbed.{tabbed}
 use Rattle.phone_print.specs.Texts.{e164_text}

@@ -13,7 +13,7 @@ ghost use Rattle.phone_prefixes.specs.Refusals.{Refuses};
 ghost use Rattle.phone_prefixes.specs.Tables.{IsTable};
 
 use crate::pairs::Tabs;
-use phone_countries::CountriesError;
+use phone_places::CountriesError;
 use phone_device::{ByteSource, MemorySink, Std};
 use phone_languages::Locale;
 use phone_lines::{RunError, take_lines};

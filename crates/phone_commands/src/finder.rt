@@ -17,7 +17,7 @@ ghost use Rattle.phone_commands.specs.declared.finder.FoundForm.TheVariants as f
 ghost use Rattle.phone_find.specs.Numbers.{AreNumbers};
 ghost use Rattle.phone_find.specs.declared.leniency.Leniency.TheVariants.{Valid};
 ghost use Rattle.phone_matches.specs.Orders as orders;
-ghost use Rattle.phone_matches_search.specs.Told.{AllMatchThere, told_matches};
+ghost use Rattle.phone_matches.specs.Told.{AllMatchThere, told_matches};
 ghost use Rattle.phone_print.specs.Tabbed.{tabbed};
 ghost use Rattle.phone_print.specs.Texts.{e164_text};
 

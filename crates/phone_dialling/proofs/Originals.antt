@@ -6,7 +6,7 @@ use Rattle.phone_values.specs.declared.reading.Reading.{Reading}
 use Rattle.phone_library.specs.Readings.{ReadsByLibrary}
 use Rattle.phone_records.specs.declared.loader.Format.{Format}
 use Rattle.phone_records.specs.declared.loader.Metadata.{Metadata}
-use Rattle.phone_rules.proofs.Results.{ok_again}
+use Rattle.phone_read.proofs.Results.{ok_again}
 use Rattle.phone_dialling.specs.Original
 use Rattle.phone_dialling.specs.Original.{IsBehind, IsToldText, LeavesPrefix, digits_of, hinted_text, is_valid_read, own_prefix, region_of, writes_digits, written_prefix}
 use Rattle.phone_values.specs.declared.country.Source.TheVariants.{Default}

@@ -1,7 +1,7 @@
 -- Templates whose groups are named by a dollar sign and one digit.
 use Rattle.std.proofs.Common.{◌≡◌, ℕ, ◌++◌, Bool, true, false, if◌then◌else◌, List, [], ◌∷◌, chars, append-nil, ap, sym, ◌∙◌}
 use Rattle.std.proofs.lemmas.Str.{chars-nil}
-use Rattle.phone_dialling.specs.OwnLayouts.{braced, in_braces, literal, names_group}
+use Rattle.phone_further.specs.OwnLayouts.{braced, in_braces, literal, names_group}
 
 module _ (c : ℕ) (t : List ℕ) where
   empty_behind : chars t ≡ [] → braced (c ∷ chars t) ≡ literal c ++ braced (chars t)

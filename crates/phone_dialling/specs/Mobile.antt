@@ -16,7 +16,7 @@ use Rattle.phone_library.specs.Facts.{kind_of_number}
 use Rattle.phone_library.specs.Lengths.{length_in}
 use Rattle.phone_plans.specs.CodeLookUps.{first_of, territories}
 use Rattle.phone_records.specs.declared.loader.Metadata.{Metadata}
-use Rattle.phone_rules.specs.Kinds.{is_known}
+use Rattle.phone_read.specs.Kinds.{is_known}
 use Rattle.phone_territory.specs.Records.{id_of}
 use Rattle.phone_questions.specs.Belonging.{is_dialled_from_abroad}
 use Rattle.phone_questions.specs.Carriers.{national_with, preferred_carrier}

@@ -214,8 +214,8 @@ fn is_single(pattern: &str) -> bool
     begins_with_digit(pattern) && is_tail(after_run(pattern, &Digits))
 }
 
-/// Whether the first character of a text is a digit.
-fn begins_with_digit(text: &str) -> bool
+/// Whether the first character of a text is a digit from `0` to `9`.
+pub(crate) fn begins_with_digit(text: &str) -> bool
     ensures { result ≡ begins is_digit (chars text.now) }
 {
     match split_first(text) {

@@ -1,15 +1,20 @@
 //! How a number is written so that it can be dialled, by libphonenumber's rules: on a mobile phone;
-//! from a region; in the way in which it was written; by layouts that are handed in.
+//! from a region; in the way in which it was written; with the letters in which it was written, to
+//! which we give an answer of our own too.
 #![tactic(auto)]
 
 mod abroad;
+mod dialled;
+mod ends;
+mod kept;
+mod lettered;
 mod mobile;
 mod original;
-mod own_layouts;
 mod texts;
 
 pub use abroad::{behind_prefix, dialled_text, from_territory, preferred_prefix, single_prefix};
+pub use dialled::dialled_with_letters;
+pub use lettered::text_with_letters;
 pub use mobile::{MobileWay, mobile_text};
 pub use original::{first_layout, original_text, with_extension};
-pub use own_layouts::text_by_layouts;
 pub use texts::text_in;

@@ -8,7 +8,7 @@ ghost use Rattle.phone_dialling.specs.Mobile.{with_symbols};
 ghost use Rattle.phone_library.specs.Lengths.{length_in};
 ghost use Rattle.phone_questions.specs.Carriers.{preferred_carrier};
 ghost use Rattle.phone_questions.specs.Truncation.{is_too_short};
-ghost use Rattle.phone_rules.specs.Kinds.{is_known};
+ghost use Rattle.phone_read.specs.Kinds.{is_known};
 ghost use Rattle.phone_values.specs.Numbers.{text_of};
 
 use crate::texts::{text_in, without_extension};

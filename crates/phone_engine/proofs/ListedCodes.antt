@@ -20,8 +20,8 @@ use Rattle.phone_library_text.specs.declared.written.WrittenNumber.{WrittenNumbe
 use Rattle.phone_plans.specs.CodeLookUps.{is_listed}
 use Rattle.phone_plans.specs.Records.{has_id}
 use Rattle.phone_plans.specs.Records as records
-use Rattle.phone_rules.specs.Dialling.{after_match, found_in}
-use Rattle.phone_rules.specs.Strips.{Stripped}
+use Rattle.phone_read.specs.Dialling.{after_match, found_in}
+use Rattle.phone_read.specs.Strips.{Stripped}
 use Rattle.phone_read.proofs.ListedFronts.{shortest-listed}
 use Rattle.phone_read.specs.Hints.{Coded, hinted}
 use Rattle.phone_records.specs.declared.loader.Metadata.{Metadata}

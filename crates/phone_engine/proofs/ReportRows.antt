@@ -20,11 +20,11 @@ use Rattle.phone_chars.proofs.ViableRows.{not_viable}
 use Rattle.phone_read.specs.Hints.{code_by_hint}
 use Rattle.phone_read.specs.Readings.{Reads}
 use Rattle.phone_read.specs.Regions.{home}
-use Rattle.phone_rules.specs.Kinds.{type_of, is_known}
+use Rattle.phone_read.specs.Kinds.{type_of, is_known}
 use Rattle.phone_read.specs.Samples.{nz}
 use Rattle.phone_parts.specs.Texts.{begins}
 use Rattle.phone_values.specs.declared.reading.Reading.{Reading}
-use Rattle.phone_rules.proofs.DigitTexts.{encode_utf8_all-digits}
+use Rattle.phone_read.proofs.DigitTexts.{encode_utf8_all-digits}
 use Rattle.phone_read.proofs.HintCodes.{code_by_hint-other}
 use Rattle.phone_read.proofs.ReadingRows.{decimal_64}
 use Rattle.phone_engine.specs.ReportLines as Reports

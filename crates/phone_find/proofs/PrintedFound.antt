@@ -26,7 +26,7 @@ use Rattle.phone_parts.specs.Texts.{begins, ends}
 use Rattle.phone_records.specs.declared.loader.Metadata.{Metadata}
 use Rattle.phone_values.specs.declared.reading.Reading.{Reading}
 use Rattle.phone_read.specs.Regions.{home}
-use Rattle.phone_rules.specs.Kinds.{is_known, type_of}
+use Rattle.phone_read.specs.Kinds.{is_known, type_of}
 use Rattle.phonenumber.proofs.BackLaws.{international_back, punctuated}
 use Rattle.phonenumber.proofs.BackNumbers.{list_all-decimal, list_all-text_of}
 use Rattle.phonenumber.proofs.BackPrefixes.{announced_safely}

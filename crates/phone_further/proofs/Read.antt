@@ -6,7 +6,7 @@ use Rattle.phone_values.specs.declared.error.ParseError.TheVariants.{Memory}
 use Rattle.phone_values.specs.declared.reading.Reading.{Reading}
 use Rattle.phone_library.specs.Readings.{ReadsByLibrary}
 use Rattle.phone_records.specs.declared.loader.Metadata.{Metadata}
-use Rattle.phone_rules.proofs.Results.{ok_again}
+use Rattle.phone_read.proofs.Results.{ok_again}
 use Rattle.phone_further.specs.Examples
 use Rattle.phone_further.specs.Examples.{AnswersExample}
 use Rattle.phone_further.specs.Invalid.{IsInvalidRead, if_invalid}

@@ -5,7 +5,7 @@ use Rattle.phone_values.specs.declared.error.ParseError.TheVariants.{InvalidCoun
 use Rattle.phone_values.specs.declared.reading.Reading.{Reading}
 use Rattle.phone_library.specs.Readings.{ReadsByLibrary}
 use Rattle.phone_records.specs.declared.loader.Metadata.{Metadata}
-use Rattle.phone_rules.proofs.Results.{ok_again}
+use Rattle.phone_read.proofs.Results.{ok_again}
 use Rattle.phone_further.specs.Matches.{match_numbers}
 use Rattle.phone_further.specs.TextMatches
 use Rattle.phone_questions.specs.TextMatches.{IsBare, IsBeside}

@@ -10,7 +10,7 @@ use Rattle.phone_records.specs.declared.loader.Metadata.{Metadata}
 use Rattle.phone_questions.specs.Belonging.{is_dialled_from_abroad, territory_with}
 use Rattle.phone_questions.specs.Regions.{main_region}
 use Rattle.phone_dialling.specs.Mobile.{mobile_text}
-use Rattle.phone_dialling.specs.OwnLayouts.{text_by_layouts}
+use Rattle.phone_further.specs.OwnLayouts.{text_by_layouts}
 use Rattle.phone_dialling.specs.Texts.{text_in}
 
 -- each region of a calling code is at home for its numbers: the main one stands for all

@@ -4,6 +4,7 @@ pub mod Examples
 pub mod Invalid
 pub mod Lowest
 pub mod Matches
+pub mod OwnLayouts
 pub mod Possible
 pub mod Services
 pub mod ShortNumbers

@@ -5,7 +5,8 @@ ghost use Rattle.phone_further.specs.Answers.{reaches_from_abroad};
 ghost use Rattle.std.specs.Option.{option_copied};
 ghost use Rattle.phone_questions.specs.Belonging.{territory_with};
 
-use phone_dialling::{mobile_text, text_by_layouts, text_in};
+use crate::own_layouts::text_by_layouts;
+use phone_dialling::{mobile_text, text_in};
 use phone_library::is_valid;
 use phone_plans::{Format, Plans, Territory};
 use phone_questions::{is_dialled_from_abroad, main_region};
@@ -60,7 +61,7 @@ fn territory_with<'d>(database: &'d Plans, id: &str, code: u16) -> Option<&'d Te
 }
 
 /// The text of a number in a mode by layouts that are handed in: as `text_by_layouts` of
-/// `phone_dialling`, but the E.164 text is that of the number, plus sign, code and digits alone,
+/// this crate, but the E.164 text is that of the number, plus sign, code and digits alone,
 /// where libphonenumber lays it out. Refused only for memory.
 pub fn own_layouts_text(
     database: &Plans,

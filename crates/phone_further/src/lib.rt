@@ -1,6 +1,7 @@
 //! Further questions by libphonenumber's rules: examples of numbers that a database gives, and of
-//! one that isn't valid; which short numbers are services to which messages are sent, and what one
-//! is where its region isn't told. And our own answers, where libphonenumber's mislead.
+//! one that isn't valid; the text of a number by layouts that are handed in; which short numbers
+//! are services to which messages are sent, and what one is where its region isn't told. And our
+//! own answers, where libphonenumber's mislead.
 #![tactic(auto)]
 
 mod answers;
@@ -9,6 +10,7 @@ mod examples;
 mod invalid;
 mod lowest;
 mod matches;
+mod own_layouts;
 mod possible;
 mod records;
 mod rows;
@@ -22,6 +24,7 @@ pub use examples::example_of_code;
 pub use invalid::invalid_example;
 pub use lowest::example_of_kind;
 pub use matches::match_numbers;
+pub use own_layouts::text_by_layouts;
 pub use possible::possibility_of;
 pub use records::{cost_by, dearer, is_number_by, is_possible_by, short_records};
 pub use services::is_sms_service;

@@ -9,7 +9,7 @@ ghost use Rattle.phone_keyed_parts.specs.Lines as line_rules;
 use crate::parting::{before_last, gap_behind_sign, gap_in, prefix_length, territory_behind};
 use phone_base::results::zip;
 use phone_plans::{Plans, Territory};
-use phone_rules::trims::behind_number;
+use phone_read::trims::behind_number;
 use phone_values::country::Id;
 use std::alloc::{AllocError, Global};
 use std::marker::Model;

@@ -8,7 +8,7 @@ ghost use Rattle.phone_keyed_parts.specs.Lines as line_rules;
 
 use phone_pattern::Pattern;
 use phone_plans::{Plans, Territory};
-use phone_rules::trims::has_front;
+use phone_read::trims::has_front;
 use phone_values::country::Id;
 use std::alloc::AllocError;
 

@@ -13,7 +13,7 @@ use Rattle.phone_library.specs.Facts.{is_valid_number, territory_of_number}
 use Rattle.phone_plans.specs.CodeLookUps.{first_of, territories}
 use Rattle.phone_records.specs.declared.loader.Descriptor.{Descriptor}
 use Rattle.phone_records.specs.declared.loader.Metadata.{Metadata}
-use Rattle.phone_rules.specs.Verdicts.{general_lengths}
+use Rattle.phone_read.specs.Verdicts.{general_lengths}
 use Rattle.phone_territory.specs.Records.{allows_length}
 use Rattle.phone_questions.specs.Possible.{is_among, lengths_by, possibility_as, verdict_by, verdict_in, verdict_on}
 

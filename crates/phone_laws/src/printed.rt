@@ -14,7 +14,7 @@ ghost use Rattle.phone_matches.specs.Marks.{HasGoodMarks};
 ghost use Rattle.phone_matches.specs.Numbers.{AreNumbersBy};
 ghost use Rattle.phone_matches.specs.Spaced.{StandsWhole, linked, scheme, space, spaced};
 ghost use Rattle.phone_matches.specs.declared.leniency.Leniency.TheVariants as leniency;
-ghost use Rattle.phone_matches_search.specs.Searches.{Matched};
+ghost use Rattle.phone_matches.specs.Searches.{Matched};
 ghost use Rattle.phone_print.specs.Texts.{e164_text};
 ghost use Rattle.phone_read.specs.Hints.{hinted};
 ghost use Rattle.phone_records.specs.declared.loader.Metadata as loader;

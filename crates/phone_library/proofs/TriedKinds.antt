@@ -4,9 +4,9 @@ use Rattle.std.specs.List.{find}
 use Rattle.std.specs.Option.{option_map_or}
 use Rattle.phone_values.specs.declared.kind.«Type».{«Type»}
 use Rattle.phone_values.specs.declared.kind.«Type».TheVariants.{Unknown}
-use Rattle.phone_rules.proofs.TriedKinds.{find-map}
+use Rattle.phone_read.proofs.TriedKinds.{find-map}
 use Rattle.phone_library.specs.Kinds.{is_number_of, kind_in, line_or_mobile}
-use Rattle.phone_rules.specs.declared.kinds.TheConstants.{TRIED}
+use Rattle.phone_read.specs.declared.kinds.TheConstants.{TRIED}
 use Rattle.phone_records.specs.declared.loader.Descriptor.{Descriptor}
 use Rattle.phone_records.specs.declared.loader.Metadata.{Metadata}
 use Rattle.phone_territory.specs.Kinds.{descriptor_for, kinds_of}

@@ -7,7 +7,7 @@ use Rattle.phone_values.specs.declared.country.Id.{Id}
 use Rattle.phone_values.specs.declared.kind.«Type».{«Type»}
 use Rattle.phone_values.specs.declared.kind.«Type».TheVariants.{Unknown}
 use Rattle.phone_values.specs.declared.reading.Reading.{Reading}
-use Rattle.phone_rules.specs.Kinds.{is_known}
+use Rattle.phone_read.specs.Kinds.{is_known}
 use Rattle.phone_library.specs.Kinds.{kind_in, territory_in}
 use Rattle.phone_records.specs.declared.loader.Metadata.{Metadata}
 

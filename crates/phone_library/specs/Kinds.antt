@@ -7,7 +7,7 @@ use Rattle.std.specs.Option.{option_map_or}
 use Rattle.phone_values.specs.declared.kind.«Type».{«Type»}
 use Rattle.phone_values.specs.declared.kind.«Type».TheVariants.{FixedLine, FixedLineOrMobile}
 use Rattle.phone_values.specs.declared.kind.«Type».TheVariants.{Unknown}
-use Rattle.phone_rules.specs.Kinds.{is_known, tried_kinds}
+use Rattle.phone_read.specs.Kinds.{is_known, tried_kinds}
 use Rattle.phone_plans.specs.CodeLookUps.{territories}
 use Rattle.phone_records.specs.declared.loader.Descriptor.{Descriptor}
 use Rattle.phone_records.specs.declared.loader.Metadata.{Metadata}

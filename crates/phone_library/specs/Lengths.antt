@@ -5,7 +5,7 @@ use Rattle.std.specs.Option.{option_map_or}
 use Rattle.phone_values.specs.declared.validator.Validation.{Validation}
 use Rattle.phone_values.specs.declared.validator.Validation.TheVariants.{IsPossible, TooLong}
 use Rattle.phone_values.specs.declared.validator.Validation.TheVariants.{IsPossibleLocalOnly}
-use Rattle.phone_rules.specs.Verdicts.{general_lengths, verdict}
+use Rattle.phone_read.specs.Verdicts.{general_lengths, verdict}
 use Rattle.phone_records.specs.declared.loader.Descriptor.{Descriptor}
 use Rattle.phone_records.specs.declared.loader.Metadata.{Metadata}
 use Rattle.std.specs.Prelude.{◌==◌}

@@ -7,7 +7,7 @@ use Rattle.phone_library.specs.Stripping.{untouched}
 use Rattle.phone_library.specs.declared.codes.Coded.{Coded as HeldCoded}
 use Rattle.phone_library.specs.declared.reading.MainNumber.{MainNumber}
 use Rattle.phone_library.specs.declared.stripping.Left.{Left}
-use Rattle.phone_rules.specs.Strips.{Stripped}
+use Rattle.phone_read.specs.Strips.{Stripped}
 use Rattle.phone_read.specs.Hints.{Coded}
 
 -- what is left of digits: all of them where nothing was cut off

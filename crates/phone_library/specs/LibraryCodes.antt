@@ -12,7 +12,7 @@ use Rattle.phone_library.specs.Kinds.{matches_whole}
 use Rattle.phone_library.specs.Lengths.{is_too_long, length_in}
 use Rattle.phone_library.specs.Stripping.{strip}
 use Rattle.phone_parts.specs.Texts.{is_front}
-use Rattle.phone_rules.specs.Dialling.{after_match, found_in}
+use Rattle.phone_read.specs.Dialling.{after_match, found_in}
 use Rattle.phone_read.specs.CallingCodes.{code_by_front}
 use Rattle.phone_read.specs.Hints.{Coded}
 use Rattle.phone_records.specs.declared.loader.Metadata.{Metadata}

@@ -15,7 +15,7 @@ pub use Rattle.phone_library.specs.Stripping.{stripped}
 use Rattle.phone_library_text.specs.Written.{IsWritten}
 use Rattle.phone_library_text.specs.declared.written.WrittenNumber.{WrittenNumber}
 use Rattle.phone_plans.specs.CodeLookUps.{first_of, territories}
-use Rattle.phone_rules.specs.Strips.{Stripped}
+use Rattle.phone_read.specs.Strips.{Stripped}
 use Rattle.phone_read.specs.Hints.{Coded, hinted}
 use Rattle.phone_records.specs.declared.loader.Metadata.{Metadata}
 

@@ -7,7 +7,7 @@ use Rattle.std.specs.Option.{option_map_or}
 use Rattle.phone_library.specs.Kinds.{matches_whole}
 use Rattle.phone_library.specs.Lengths.{length_in, may_be_left}
 use Rattle.phone_parts.specs.Texts.{without_front}
-use Rattle.phone_rules.specs.Strips.{Stripped, held}
+use Rattle.phone_read.specs.Strips.{Stripped, held}
 use Rattle.phone_records.specs.declared.loader.Metadata.{Metadata}
 use Rattle.phone_territory.specs.First.{Captured, captured, last_group, replaced}
 

@@ -3,7 +3,7 @@ use Rattle.std.specs.Prelude.{ℕ, List}
 use Rattle.std.specs.Option.{option_and_then, option_map_or}
 use Rattle.phone_values.specs.Ids.{id_of}
 use Rattle.phone_values.specs.declared.kind.«Type».TheVariants.{Unknown}
-use Rattle.phone_rules.specs.Kinds.{is_known}
+use Rattle.phone_read.specs.Kinds.{is_known}
 use Rattle.phone_library.specs.Kinds.{kind_in, territory_in}
 use Rattle.phone_library.specs.declared.queries.NumberFacts.{NumberFacts}
 use Rattle.phone_records.specs.declared.loader.Metadata.{Metadata}

@@ -10,14 +10,14 @@ ghost use Rattle.phone_library.specs.Kinds.{matches_whole};
 ghost use Rattle.phone_library.specs.Lent.{told};
 ghost use Rattle.phone_library.specs.Stripping.{strip};
 ghost use Rattle.phone_parts.specs.Texts.{begins};
-ghost use Rattle.phone_rules.specs.Dialling.{after_match, found_in};
+ghost use Rattle.phone_read.specs.Dialling.{after_match, found_in};
 
 use crate::kinds::matches_general;
 use crate::lengths::{is_too_long, length_in};
 use crate::stripping::strip;
 use phone_base::results::{in_place_of, zip_value};
 use phone_plans::{Plans, Territory};
-use phone_rules::trims::{begins_with_number, behind_number};
+use phone_read::trims::{begins_with_number, behind_number};
 use phone_values::ParseError;
 use phone_values::country::Source;
 use std::alloc::AllocError;

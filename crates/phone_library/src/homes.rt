@@ -2,7 +2,7 @@
 ghost use Rattle.std.specs.Prelude.{◌≡◌, ◌&&◌, not, if◌then◌else◌, IfOk, IfSome, Some, None};
 ghost use Rattle.std.specs.Prelude.{filter, option_map, reverse};
 ghost use Rattle.std.specs.List.{find};
-ghost use Rattle.phone_rules.specs.Kinds.{is_known};
+ghost use Rattle.phone_read.specs.Kinds.{is_known};
 ghost use Rattle.phone_library.specs.Homes.{TellsKind, territory_of};
 ghost use Rattle.phone_library.specs.Kinds.{has_digits, territory_in};
 ghost use Rattle.phone_plans.specs.CodeLookUps.{is_main_of, is_other_of, territories};

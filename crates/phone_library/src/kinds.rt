@@ -2,11 +2,11 @@
 ghost use Rattle.std.specs.Prelude.{◌≡◌, IfOk};
 ghost use Rattle.std.specs.List.{find};
 ghost use Rattle.std.specs.Option.{option_copied};
-ghost use Rattle.phone_rules.specs.Kinds.{is_known};
+ghost use Rattle.phone_read.specs.Kinds.{is_known};
 ghost use Rattle.phone_library.specs.Kinds.{is_number_of, kind_in, line_or_mobile, matches_whole};
 ghost use Rattle.phone_territory.specs.Kinds.{descriptor_for};
 
-use phone_rules::kinds::TRIED;
+use phone_read::kinds::TRIED;
 use phone_territory::{Descriptor, Descriptors, Subject, Territory};
 use phone_values::Type;
 use std::alloc::AllocError;

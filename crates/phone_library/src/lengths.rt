@@ -3,7 +3,7 @@ ghost use Rattle.std.specs.Prelude.{◌≡◌, ◌==◌, if◌then◌else◌};
 ghost use Rattle.std.specs.List.{list_any};
 ghost use Rattle.phone_library.specs.Lengths.{is_too_long, length_in, may_be_left};
 
-use phone_rules::kinds::length_of;
+use phone_read::kinds::length_of;
 use phone_territory::Territory;
 use phone_values::{Type, Validation};
 

@@ -11,7 +11,7 @@ use crate::stripping::{Left, strip_national_prefix};
 use phone_base::results::{in_place_of, zip_value};
 use phone_library_text::WrittenNumber;
 use phone_plans::{Plans, Territory};
-use phone_rules::trims::without_zeros;
+use phone_read::trims::without_zeros;
 use phone_values::consts::{MAX_LENGTH_FOR_NSN, MIN_LENGTH_FOR_NSN};
 use phone_values::country::{Code, Source};
 use phone_values::{Carrier, NationalNumber, ParseError, Reading};

@@ -6,13 +6,13 @@ ghost use Rattle.phone_library.specs.Kinds.{matches_whole};
 ghost use Rattle.phone_library.specs.Lent.{left_of};
 ghost use Rattle.phone_library.specs.Stripping.{left_by_match, left_by_pattern, left_by_prefix};
 ghost use Rattle.phone_library.specs.Stripping.{left_by_text, strip, stripped};
-ghost use Rattle.phone_rules.specs.Strips.{held};
+ghost use Rattle.phone_read.specs.Strips.{held};
 ghost use Rattle.phone_territory.specs.First.{AreCuts, IsCut, last_group};
 
 use crate::kinds::matches_general;
 use crate::lengths::{length_in, may_be_left};
 use phone_base::results::{in_place_of, zip_value};
-use phone_rules::trims::{has_front, trim};
+use phone_read::trims::{has_front, trim};
 use phone_territory::{Captured, Pattern, Territory};
 use std::alloc::AllocError;
 use std::borrow::CowStr;

@@ -33,7 +33,7 @@ use Rattle.phone_values.specs.declared.rules.Rules.{Rules}
 use Rattle.phone_read.specs.CallingCodes.{code_by_front}
 use Rattle.phone_read.specs.Hints.{Coded, hinted}
 use Rattle.phone_records.specs.declared.loader.Metadata.{Metadata}
-use Rattle.phone_rules.specs.Dialling.{after_match, found_in}
+use Rattle.phone_read.specs.Dialling.{after_match, found_in}
 use Rattle.phonenumber.proofs.BackCodes.{shortest-decimal}
 use Rattle.phonenumber.proofs.BackNumbers.{list_all-decimal}
 use Rattle.phonenumber.proofs.BackTexts.{is_low, low_digits}

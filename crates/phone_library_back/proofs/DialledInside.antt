@@ -25,7 +25,7 @@ use Rattle.phone_library_text.specs.Written.{IsWritten}
 use Rattle.phone_library_text.specs.declared.written.WrittenNumber.{WrittenNumber}
 use Rattle.phone_read.specs.Hints.{Coded, hinted}
 use Rattle.phone_records.specs.declared.loader.Metadata.{Metadata}
-use Rattle.phone_rules.specs.Dialling.{after_match, found_in}
+use Rattle.phone_read.specs.Dialling.{after_match, found_in}
 use Rattle.phone_territory.specs.Records.{code_of}
 use Rattle.phone_library_back.specs.Plain.{IsDialledInside}
 use Rattle.phone_library_back.specs.Printed.{inside_reading}

@@ -22,7 +22,7 @@ use Rattle.phone_library_text.specs.Written.{IsWritten, IsWrittenIn}
 use Rattle.phone_library_text.specs.declared.written.WrittenNumber.{WrittenNumber}
 use Rattle.phone_read.specs.Hints.{Coded, hinted}
 use Rattle.phone_records.specs.declared.loader.Metadata.{Metadata}
-use Rattle.phone_rules.specs.Strips.{Stripped}
+use Rattle.phone_read.specs.Strips.{Stripped}
 use Rattle.phone_library_back.specs.Announced.{IsParameterIfAny}
 use Rattle.phone_library_back.proofs.ScriptDigits.{IsUtf8-digits, chars-digits}
 

@@ -34,8 +34,8 @@ use Rattle.phone_read.proofs.ReadNumbers.{number-listed, read_from}
 use Rattle.phone_read.specs.Hints.{Coded, hinted}
 use Rattle.phone_read.specs.Readings.{stripping_territory as by_crate_territory}
 use Rattle.phone_records.specs.declared.loader.Metadata.{Metadata}
-use Rattle.phone_rules.specs.Dialling.{after_match, found_in}
-use Rattle.phone_rules.specs.Strips.{Stripped, stripped as stripped_by_crate}
+use Rattle.phone_read.specs.Dialling.{after_match, found_in}
+use Rattle.phone_read.specs.Strips.{Stripped, stripped as stripped_by_crate}
 use Rattle.phone_territory.specs.Records.{code_of}
 use Rattle.phonenumber.proofs.Keys.{same_key}
 use Rattle.phone_library_back.specs.Keys

@@ -23,7 +23,7 @@ use Rattle.phone_plans.specs.CodeLookUps.{first_of, shortest, territories}
 use Rattle.phone_read.specs.CallingCodes.{code_by_front}
 use Rattle.phone_read.specs.Hints.{Coded, hinted}
 use Rattle.phone_records.specs.declared.loader.Metadata.{Metadata}
-use Rattle.phone_rules.specs.Strips.{Stripped}
+use Rattle.phone_read.specs.Strips.{Stripped}
 use Rattle.phonenumber.proofs.BackCodes.{shortest-decimal}
 use Rattle.phone_library_back.specs.Coded.{IsCoded, IsLeftAlone}
 use Rattle.phone_library_back.specs.Printed.{printed_reading, uncarried}

@@ -14,7 +14,7 @@ use Rattle.phone_plans.specs.CodeLookUps.{first_of, territories}
 use Rattle.phone_values.specs.declared.rules.Rules.{Rules}
 use Rattle.phone_print.specs.Texts.{international_by, laid_out_by, national_by, rfc3966_by}
 use Rattle.phone_records.specs.declared.loader.Metadata.{Metadata}
-use Rattle.phone_rules.specs.Dialling.{after_match, found_in}
+use Rattle.phone_read.specs.Dialling.{after_match, found_in}
 use Rattle.phone_territory.specs.Records.{code_of}
 use Rattle.phone_library_back.specs.Announced.{IsAnnouncedIfAny, IsParameterIfAny, prefix_of}
 use Rattle.phone_library_back.specs.Layouts.{IsLaidOut, is_quiet}

@@ -20,7 +20,7 @@ use Rattle.phone_library_laws.specs.Agreement
 use Rattle.phone_library_laws.specs.Agreement.{IsCodedAlike, after_prefix, digits_text}
 use Rattle.phone_plans.specs.CodeLookUps.{shortest}
 use Rattle.phone_parts.specs.Texts.{begins, is_front}
-use Rattle.phone_rules.specs.Dialling.{after_match, found_in, source_of, unsigned}
+use Rattle.phone_read.specs.Dialling.{after_match, found_in, source_of, unsigned}
 use Rattle.phone_read.proofs.ListedFronts.{more_than_two}
 use Rattle.phone_read.specs.CallingCodes.{code_by, code_by_front, code_of, international_prefix_of}
 use Rattle.phone_read.specs.Hints.{Coded, hinted, looks_national}

@@ -14,7 +14,7 @@ use Rattle.phone_library.specs.Readings.{ReadsByLibrary}
 use Rattle.phone_library_laws.specs.Again.{IsSettled, e164_reading}
 use Rattle.phone_library_laws.specs.Agreement
 use Rattle.phone_library_laws.specs.Agreement.{IsReadAlike, IsSettledAlike, IsStrippedAlike}
-use Rattle.phone_rules.specs.Strips.{Stripped}
+use Rattle.phone_read.specs.Strips.{Stripped}
 use Rattle.phone_print.specs.Texts.{e164_text}
 use Rattle.phone_read.specs.Hints.{Coded}
 use Rattle.phone_read.specs.Readings.{Reads}

@@ -21,8 +21,8 @@ use Rattle.phone_parts.proofs.PrintedE164.{e164_parts}
 use Rattle.phone_parts.specs.Readers
 use Rattle.phone_parts.specs.Readers.{HasParts}
 use Rattle.phone_parts.specs.Texts.{begins, ends}
-use Rattle.phone_rules.specs.Strips as strips
-use Rattle.phone_rules.specs.Strips.{Stripped}
+use Rattle.phone_read.specs.Strips as strips
+use Rattle.phone_read.specs.Strips.{Stripped}
 use Rattle.phone_read.proofs.ReadingOnes as first_proofs
 use Rattle.phone_read.specs.CallingCodes.{code_of}
 use Rattle.phone_read.specs.Hints.{Coded, hinted}

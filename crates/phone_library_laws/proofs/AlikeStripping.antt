@@ -10,9 +10,9 @@ use Rattle.phone_values.specs.declared.error.ParseError.{ParseError}
 use Rattle.phone_values.specs.declared.reading.Reading.{Reading}
 use Rattle.phone_values.specs.declared.validator.Validation.{Validation}
 use Rattle.phone_values.specs.declared.validator.Validation.TheVariants.{IsPossible, IsPossibleLocalOnly, InvalidCountryCode, InvalidLength, TooLong, TooShort}
-use Rattle.phone_rules.specs.Strips as strips
-use Rattle.phone_rules.specs.Strips.{Stripped, by_match, cut_by, left_by, off_match, off_prefix, stay, step}
-use Rattle.phone_rules.specs.Verdicts.{is_too_short, verdict, verdict_of}
+use Rattle.phone_read.specs.Strips as strips
+use Rattle.phone_read.specs.Strips.{Stripped, by_match, cut_by, left_by, off_match, off_prefix, stay, step}
+use Rattle.phone_read.specs.Verdicts.{is_too_short, verdict, verdict_of}
 use Rattle.phone_library.specs.Kinds.{matches_whole}
 use Rattle.phone_library.specs.Lengths.{length_in, local_lengths, may_be_left}
 use Rattle.phone_library.specs.LibraryCodes.{code_in}

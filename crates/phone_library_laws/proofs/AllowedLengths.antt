@@ -9,8 +9,8 @@ use Rattle.phone_values.specs.declared.kind.«Type».TheVariants as kind
 use Rattle.phone_values.specs.declared.reading.Reading.{Reading}
 use Rattle.phone_values.specs.declared.validator.Validation.{Validation}
 use Rattle.phone_values.specs.declared.validator.Validation.TheVariants.{IsPossible, IsPossibleLocalOnly, InvalidLength, TooLong, TooShort}
-use Rattle.phone_rules.specs.Kinds.{is_known, tried_kinds}
-use Rattle.phone_rules.specs.Verdicts.{general_lengths, last_of, verdict_by, verdict_of}
+use Rattle.phone_read.specs.Kinds.{is_known, tried_kinds}
+use Rattle.phone_read.specs.Verdicts.{general_lengths, last_of, verdict_by, verdict_of}
 use Rattle.phone_library.specs.Facts.{is_valid_number, territory_of_number}
 use Rattle.phone_library.specs.Kinds.{is_number_of, kind_in, line_or_mobile}
 use Rattle.phone_library.specs.Lengths.{length_in, local_lengths}

@@ -14,7 +14,7 @@ use Rattle.phone_library_text.specs.Letters.{digits_in, is_lettered, key_of, val
 use Rattle.phone_plans.proofs.InOrder.{All-territories}
 use Rattle.phone_plans.specs.CodeLookUps.{first_of, territories}
 use Rattle.phone_parts.specs.Texts.{is_front, without_front}
-use Rattle.phone_rules.specs.Strips.{Stripped}
+use Rattle.phone_read.specs.Strips.{Stripped}
 use Rattle.phone_read.proofs.ReadNumbers.{All-replaced}
 use Rattle.phone_records.specs.declared.loader.Metadata.{Metadata}
 use Rattle.phone_territory.specs.First.{Captured, captured}

@@ -9,7 +9,7 @@ use Rattle.phone_values.specs.Numbers.{text_of}
 use Rattle.phone_values.specs.declared.kind.«Type».{«Type»}
 use Rattle.phone_values.specs.declared.kind.«Type».TheVariants as kind
 use Rattle.phone_values.specs.declared.reading.Reading.{Reading}
-use Rattle.phone_rules.specs.Kinds.{is_known}
+use Rattle.phone_read.specs.Kinds.{is_known}
 use Rattle.phone_library.specs.Facts.{is_valid_number, kind_of_number, territory_of_number}
 use Rattle.phone_library.specs.Kinds.{has_digits, kind_in, territory_among}
 use Rattle.phone_plans.specs.CodeLookUps.{is_main_of, is_other_of, territories}

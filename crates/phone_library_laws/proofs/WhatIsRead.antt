@@ -28,8 +28,8 @@ use Rattle.phone_plans.specs.CodeLookUps.{is_listed}
 use Rattle.phone_plans.specs.Records.{has_id, last_where}
 use Rattle.phone_plans.specs.Records as records
 use Rattle.phone_parts.specs.Texts.{begins}
-use Rattle.phone_rules.specs.Dialling.{after_match, found_in}
-use Rattle.phone_rules.specs.Strips.{Stripped}
+use Rattle.phone_read.specs.Dialling.{after_match, found_in}
+use Rattle.phone_read.specs.Strips.{Stripped}
 use Rattle.phone_read.proofs.ListedFronts.{shortest-listed}
 use Rattle.phone_read.proofs.ReadNumbers.{nsn-own}
 use Rattle.phone_read.specs.Hints.{Coded, hinted}

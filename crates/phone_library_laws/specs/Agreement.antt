@@ -15,8 +15,8 @@ use Rattle.phone_library_laws.specs.Again.{IsSettled}
 use Rattle.phone_library_text.specs.Written.{most_characters}
 use Rattle.phone_plans.specs.CodeLookUps.{shortest}
 use Rattle.phone_parts.specs.Texts.{is_front}
-use Rattle.phone_rules.specs.Dialling.{after_match, found_in}
-use Rattle.phone_rules.specs.Strips as first
+use Rattle.phone_read.specs.Dialling.{after_match, found_in}
+use Rattle.phone_read.specs.Strips as first
 use Rattle.phone_read.specs.CallingCodes.{international_prefix_of}
 use Rattle.phone_read.specs.Hints.{Coded, hinted}
 use Rattle.phone_read.specs.Readings as first_reading

@@ -7,7 +7,7 @@ ghost use Rattle.phone_values.specs.Numbers.{text_of};
 ghost use Rattle.phone_values.specs.declared.kind.«Type».TheVariants as kind;
 ghost use Rattle.phone_values.specs.declared.reading.Reading.{Reading};
 ghost use Rattle.phone_values.specs.declared.validator.Validation.TheVariants as length_verdict;
-ghost use Rattle.phone_rules.specs.Verdicts.{general_lengths};
+ghost use Rattle.phone_read.specs.Verdicts.{general_lengths};
 ghost use Rattle.phone_library.specs.Facts.{is_valid_number, kind_of_number, territory_of_number};
 ghost use Rattle.phone_library.specs.Kinds.{kind_in};
 ghost use Rattle.phone_library.specs.Lengths.{length_in, local_lengths};

@@ -3,8 +3,8 @@ use Rattle.std.proofs.Common.{ℕ, List, [], ◌∷◌, ◌++◌, Option, None, 
 use Rattle.std.specs.List.{AllByRecursion}
 use Rattle.std.specs.Option.{option_to_list}
 use Rattle.phone_matches_text.specs.Pieces.{Piece}
-use Rattle.phone_matches_search.specs.Searches
-use Rattle.phone_matches_search.specs.Searches.{Accepts, AreMatches, IsAccepted, IsFirst, IsTried, Matched}
+use Rattle.phone_matches.specs.Searches
+use Rattle.phone_matches.specs.Searches.{Accepts, AreMatches, IsAccepted, IsFirst, IsTried, Matched}
 
 module _ {N : Type 0} (accepts : Accepts N) (text : List ℕ) where
   first_accepted : (ps : List Piece) (found : Option (Matched N)) (failed : ℕ) → IsFirst accepts text ps found failed →

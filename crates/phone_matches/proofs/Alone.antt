@@ -16,8 +16,8 @@ use Rattle.phone_matches.specs.Numbers.{may_be_number}
 use Rattle.phone_matches.specs.Spaced.{StandsWhole, scheme, space}
 use Rattle.phone_matches.specs.declared.leniency.Leniency.{Leniency}
 use Rattle.phone_matches.specs.declared.leniency.Leniency.TheVariants.{ExactGrouping, Possible, StrictGrouping, Valid}
-use Rattle.phone_matches_search.specs.Searches
-use Rattle.phone_matches_search.specs.Searches.{Accepts, AreMatches, IsStep, IsTried, behind, candidate_in}
+use Rattle.phone_matches.specs.Searches
+use Rattle.phone_matches.specs.Searches.{Accepts, AreMatches, IsStep, IsTried, behind, candidate_in}
 
 -- what stands before a text ends in no character that sticks to it
 abbrev pub IsLoose : List ℕ → Type 0

@@ -2,11 +2,16 @@ pub mod Accepted
 pub mod Alone
 pub mod Announced
 pub mod Decided
+pub mod Firsts
 pub mod Laid
+pub mod Ones
 pub mod Orders
 pub mod Same
 pub mod Scalars
+pub mod Seams
+pub mod Steps
 pub mod Sufficing
 pub mod Tested
 pub mod There
 pub mod Told
+pub mod Tried

@@ -8,8 +8,8 @@ use Rattle.phone_matches_text.specs.Candidates.{from_candidate}
 use Rattle.phone_matches_text.specs.Pieces.{Piece}
 use Rattle.phone_matches_text.specs.Shapes.{Test, before_end, from_first}
 use Rattle.phone_matches.specs.Orders.{IsOrdered}
-use Rattle.phone_matches_search.specs.Searches
-use Rattle.phone_matches_search.specs.Searches.{Accepts, AreMatches, IsFirst, IsTried, Matched, behind, candidate_in, placed, tried}
+use Rattle.phone_matches.specs.Searches
+use Rattle.phone_matches.specs.Searches.{Accepts, AreMatches, IsFirst, IsTried, Matched, behind, candidate_in, placed, tried}
 
 pub first_shorter : (q : Test) (t : List ℕ) → length (from_first q t) ≤ length t
 first_shorter q [] = omega arith

@@ -12,8 +12,8 @@ use Rattle.phone_matches_text.specs.Pieces.{AreAllPieces, AreCuts, ArePieces, Ar
 use Rattle.phone_matches_text.specs.declared.pieces.Sign.{Sign}
 use Rattle.phone_matches.proofs.Accepted.{tried_accepted}
 use Rattle.phone_matches.proofs.Orders.{first_shorter, from_length, tried_behind}
-use Rattle.phone_matches_search.specs.Searches
-use Rattle.phone_matches_search.specs.Searches.{Accepts, AreMatches, IsAccepted, IsFirst, IsParted, IsRefused, IsStep, IsTried, Matched, behind, candidate_in, left_of, passed, placed, tried}
+use Rattle.phone_matches.specs.Searches
+use Rattle.phone_matches.specs.Searches.{Accepts, AreMatches, IsAccepted, IsFirst, IsParted, IsRefused, IsStep, IsTried, Matched, behind, candidate_in, left_of, passed, placed, tried}
 
 is_empty : (t : List ℕ) → (t ≡ []) ⊎ (¬ (t ≡ []))
 is_empty [] = inl refl

@@ -5,4 +5,6 @@ pub mod Marks
 pub mod Numbers
 pub mod Orders
 pub mod Prefixes
+pub mod Searches
 pub mod Spaced
+pub mod Told

@@ -4,7 +4,7 @@ use Rattle.std.specs.Prelude.{◌≡◌, ◌&&◌, not, ℕ, Bool, true, List, [
 use Rattle.phone_library.specs.Readings.{ReadsByLibrary}
 use Rattle.phone_matches.specs.Leniencies.{Suffices, is_free}
 use Rattle.phone_matches.specs.declared.leniency.Leniency.{Leniency}
-use Rattle.phone_matches_search.specs.Searches.{AreMatches, Matched}
+use Rattle.phone_matches.specs.Searches.{AreMatches, Matched}
 use Rattle.phone_matches_text.specs.Brackets.{has_good_brackets, has_pages}
 use Rattle.phone_records.specs.declared.loader.Metadata.{Metadata}
 use Rattle.phone_values.specs.declared.country.Id.{Id}

@@ -1,6 +1,6 @@
 -- Matches in their order that don't overlap. A place is a count of characters.
 use Rattle.std.specs.Prelude.{ℕ, ◌+◌, ◌≤◌, List, [], ◌∷◌, length, ⊤}
-use Rattle.phone_matches_search.specs.Searches.{Matched}
+use Rattle.phone_matches.specs.Searches.{Matched}
 
 -- from a place on: each begins where the one before it ends, or later
 abbrev pub IsOrdered : {N : Type 0} → ℕ → List (Matched N) → Type 0

@@ -8,7 +8,7 @@ ghost use Rattle.phone_matches.specs.Orders.{IsOrdered};
 ghost use Rattle.phone_matches.specs.Spaced.{StandsWhole, linked, scheme, space, spaced};
 ghost use Rattle.phone_matches.specs.declared.leniency.Leniency.{Leniency};
 ghost use Rattle.phone_matches.specs.declared.leniency.Leniency.TheVariants as leniency;
-ghost use Rattle.phone_matches_search.specs.Searches.{Matched};
+ghost use Rattle.phone_matches.specs.Searches.{Matched};
 ghost use Rattle.phone_records.specs.declared.loader.Metadata as loader;
 ghost use Rattle.phone_values.specs.declared.country.Id.{Id};
 ghost use Rattle.phone_values.specs.declared.reading.Reading.{Reading};

@@ -7,13 +7,13 @@ ghost use Rattle.phone_matches.specs.Leniencies.{Suffices};
 ghost use Rattle.phone_matches.specs.Numbers.{AreNumbers, AreNumbersBy, IsNumberBy};
 ghost use Rattle.phone_matches.specs.Numbers.{IsReadWell, may_be_number};
 ghost use Rattle.phone_matches.specs.declared.leniency.Leniency.TheVariants as leniency;
-ghost use Rattle.phone_matches_search.specs.Told.{AllMatchThere, told_matches};
+ghost use Rattle.phone_matches.specs.Told.{AllMatchThere, told_matches};
 ghost use Rattle.phone_values.specs.declared.reading.Reading.{Reading};
 
 use crate::leniency::{Leniency, is_free, suffices};
+use crate::{Judge, Match, all_matches};
 use phone_library::parse;
 use phone_library_laws::readings;
-use phone_matches_search::{Judge, Match, all_matches};
 use phone_matches_text::{has_good_brackets, has_pages};
 use phone_plans::Plans;
 use phone_values::ParseError;

@@ -16,7 +16,7 @@ ghost use Rattle.phone_parts.specs.Texts.{is_front, without_front};
 
 use phone_plans::{Plans, Territory};
 use phone_questions::digits_only;
-use phone_rules::trims::{has_front, without_front};
+use phone_read::trims::{has_front, without_front};
 use phone_territory::{Captured, Format, Pattern};
 use phone_values::country::Source;
 use phonenumber::PhoneNumber;

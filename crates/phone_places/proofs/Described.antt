@@ -5,7 +5,7 @@ use Rattle.std.specs.Prelude.{unwrap_or}
 use Rattle.phone_languages.specs.Atlases.{IsArea, name_in}
 use Rattle.phone_languages.specs.declared.atlas.Atlas.{Atlas}
 use Rattle.phone_library.specs.Facts.{region_of_number}
-use Rattle.phone_maps.specs.Maps.{digits_of}
+use Rattle.phone_places.specs.Maps.{digits_of}
 use Rattle.phone_places.specs.Areas.{IsAreaOf, IsOther, behind_token, without_token}
 use Rattle.phone_places.specs.Descriptions
 use Rattle.phone_places.specs.Descriptions.{IsDescribed, IsDescribedIn, is_elsewhere}

@@ -5,7 +5,7 @@ use Rattle.std.specs.Result.{result_ok}
 use Rattle.phone_languages.specs.Atlases.{IsArea}
 use Rattle.phone_languages.specs.declared.atlas.Atlas.{Atlas}
 use Rattle.phone_library.specs.Readings.{ReadsByLibrary}
-use Rattle.phone_maps.specs.Maps.{digits_of}
+use Rattle.phone_places.specs.Maps.{digits_of}
 use Rattle.phone_records.specs.declared.loader.Metadata.{Metadata}
 use Rattle.phone_values.specs.Numbers.{text_of}
 use Rattle.phone_values.specs.declared.country.Id.TheVariants.{AR}

@@ -6,7 +6,7 @@ use Rattle.phone_languages.specs.declared.atlas.Atlas.{Atlas}
 use Rattle.phone_library.specs.Kinds.{kind_in}
 use Rattle.phone_plans.specs.Records.{has_code}
 use Rattle.phone_records.specs.declared.loader.Metadata.{Metadata}
-use Rattle.phone_rules.specs.Kinds.{is_known}
+use Rattle.phone_read.specs.Kinds.{is_known}
 use Rattle.phone_values.specs.Ids.{id_of, name}
 use Rattle.phone_values.specs.Numbers.{text_of}
 use Rattle.phone_values.specs.declared.country.Id.{Id}

@@ -2,5 +2,11 @@ pub mod Areas
 pub mod Carriers
 pub mod Countries
 pub mod Descriptions
+pub mod Folds
+pub mod Ids
+pub mod Maps
+pub mod Names
+pub mod Nearest
 pub mod Placed
+pub mod Tables
 pub mod Zones

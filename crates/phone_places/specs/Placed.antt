@@ -1,7 +1,7 @@
 -- Numbers of a place.
 use Rattle.std.specs.Prelude.{Bool, List}
 use Rattle.phone_library.specs.Facts.{kind_of_number}
-use Rattle.phone_maps.specs.Maps.{is_geographical}
+use Rattle.phone_places.specs.Maps.{is_geographical}
 use Rattle.phone_records.specs.declared.loader.Metadata.{Metadata}
 use Rattle.phone_values.specs.declared.reading.Reading.{Reading}
 

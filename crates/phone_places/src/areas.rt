@@ -2,14 +2,14 @@
 ghost use Rattle.std.specs.Prelude.{◌≡◌, IfOk, None, OnOk, chars};
 ghost use Rattle.std.specs.Option.{option_copied};
 ghost use Rattle.phone_languages.specs.Atlases.{IsArea};
-ghost use Rattle.phone_maps.specs.Maps.{digits_of};
+ghost use Rattle.phone_places.specs.Maps.{digits_of};
 ghost use Rattle.phone_places.specs.Areas.{IsAreaOf, IsOther, IsReadInArgentina, behind_token};
 ghost use Rattle.phone_places.specs.Areas.{without_token};
 ghost use Rattle.phone_values.specs.Numbers.{text_of};
 
+use crate::digits_of;
 use phone_languages::Atlas;
 use phone_library::parse;
-use phone_maps::digits_of;
 use phone_plans::Plans;
 use phone_values::ParseError;
 use phone_values::country::Id;

@@ -2,12 +2,12 @@
 ghost use Rattle.std.specs.Prelude.{◌≡◌, IfOk, true, false, []};
 ghost use Rattle.phone_languages.specs.Atlases.{IsCarrier};
 ghost use Rattle.phone_library.specs.Facts.{kind_of_number};
-ghost use Rattle.phone_maps.specs.Maps.{digits_of, has_carrier};
+ghost use Rattle.phone_places.specs.Maps.{digits_of, has_carrier};
 ghost use Rattle.phone_places.specs.Carriers.{is_portable};
 
+use crate::{digits_of, has_carrier};
 use phone_languages::Atlas;
 use phone_library::{number_type, region};
-use phone_maps::{digits_of, has_carrier};
 use phone_plans::Plans;
 use phone_values::Type;
 use phonenumber::PhoneNumber;

@@ -2,7 +2,7 @@
 ghost use Rattle.std.specs.Prelude.{◌≡◌, IfOk, filter};
 ghost use Rattle.std.specs.Option.{option_copied};
 ghost use Rattle.phone_plans.specs.Records.{has_code};
-ghost use Rattle.phone_rules.specs.Kinds.{is_known};
+ghost use Rattle.phone_read.specs.Kinds.{is_known};
 ghost use Rattle.phone_places.specs.Countries.{country_name, country_of, knows, region_name};
 ghost use Rattle.phone_places.specs.Countries.{candidates, sole, territory_of};
 

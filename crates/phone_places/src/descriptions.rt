@@ -2,7 +2,7 @@
 ghost use Rattle.std.specs.Prelude.{◌≡◌, ◌≢◌, IfOk, true, false, []};
 ghost use Rattle.std.specs.Option.{option_copied};
 ghost use Rattle.phone_library.specs.Facts.{kind_of_number};
-ghost use Rattle.phone_maps.specs.Maps.{is_geographical};
+ghost use Rattle.phone_places.specs.Maps.{is_geographical};
 ghost use Rattle.phone_places.specs.Countries.{country_name};
 ghost use Rattle.phone_places.specs.Descriptions.{IsAreaOrCountry, IsDescribed, IsDescribedIn};
 ghost use Rattle.phone_places.specs.Descriptions.{is_elsewhere};
@@ -11,9 +11,9 @@ ghost use Rattle.phone_values.specs.declared.kind.«Type».TheVariants.{Unknown}
 
 use crate::areas::area;
 use crate::country::country_name;
+use crate::is_geographical;
 use phone_languages::Atlas;
 use phone_library::{number_type, region};
-use phone_maps::is_geographical;
 use phone_plans::Plans;
 use phone_values::Type;
 use phone_values::country::Id;

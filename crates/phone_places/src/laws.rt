@@ -4,7 +4,7 @@ ghost use Rattle.std.specs.Prelude.{◌≡◌, ◌≢◌, ℕ, List, Option, Som
 ghost use Rattle.phone_languages.specs.Atlases.{IsArea, name_in};
 ghost use Rattle.phone_languages.specs.declared.atlas.Atlas as told;
 ghost use Rattle.phone_library.specs.Facts.{region_of_number};
-ghost use Rattle.phone_maps.specs.Maps.{digits_of};
+ghost use Rattle.phone_places.specs.Maps.{digits_of};
 ghost use Rattle.phone_places.specs.Areas.{IsAreaOf};
 ghost use Rattle.phone_places.specs.Descriptions.{IsDescribed, is_elsewhere};
 ghost use Rattle.phone_records.specs.declared.loader.Metadata as loader;

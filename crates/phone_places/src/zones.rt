@@ -2,14 +2,14 @@
 ghost use Rattle.std.specs.Prelude.{◌≡◌, ◌≢◌, IfOk, true, false};
 ghost use Rattle.std.specs.Option.{option_copied};
 ghost use Rattle.phone_library.specs.Facts.{kind_of_number};
-ghost use Rattle.phone_maps.specs.Maps.{code_digits, digits_of, is_geographical};
+ghost use Rattle.phone_places.specs.Maps.{code_digits, digits_of, is_geographical};
 ghost use Rattle.phone_places.specs.Placed.{is_placed};
 ghost use Rattle.phone_places.specs.Zones.{AreZones, unknown_zone, zones_told};
 ghost use Rattle.phone_values.specs.declared.kind.«Type».TheVariants.{Unknown};
 
+use crate::{digits_of, time_zones_of};
 use phone_languages::text_in;
 use phone_library::number_type;
-use phone_maps::{digits_of, time_zones_of};
 use phone_plans::Plans;
 use phone_prefixes::Prefixes;
 use phone_values::Type;

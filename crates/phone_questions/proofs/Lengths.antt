@@ -13,7 +13,7 @@ use Rattle.phone_plans.specs.Records.{has_code}
 use Rattle.phone_questions.specs.Truncation.{has_length}
 use Rattle.phone_records.specs.declared.loader.Descriptor.{Descriptor}
 use Rattle.phone_records.specs.declared.loader.Metadata.{Metadata}
-use Rattle.phone_rules.specs.Kinds.{is_known}
+use Rattle.phone_read.specs.Kinds.{is_known}
 use Rattle.phone_territory.specs.First.{is_whole_match}
 use Rattle.phone_territory.specs.Records.{allows_length, pattern_of}
 use Rattle.phone_values.specs.Numbers.{text_of}

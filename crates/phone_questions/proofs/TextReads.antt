@@ -11,7 +11,7 @@ use Rattle.phone_library_text.specs.Written.{IsWritten}
 use Rattle.phone_library_text.specs.declared.written.WrittenNumber.{WrittenNumber}
 use Rattle.phone_plans.specs.CodeLookUps.{first_of, territories}
 use Rattle.phone_records.specs.declared.loader.Metadata.{Metadata}
-use Rattle.phone_rules.proofs.Results.{ok_again}
+use Rattle.phone_read.proofs.Results.{ok_again}
 use Rattle.phone_questions.specs.Matches.{match_of}
 use Rattle.phone_questions.specs.TextMatches
 use Rattle.phone_questions.specs.TextMatches.{AreBareMatch, AreTextsMatch, IsBare, IsBeside, IsTextMatch, bare_number, match_read, unsure}

@@ -9,7 +9,7 @@ use Rattle.phone_library.specs.Facts.{kind_of_number, region_of_number}
 use Rattle.phone_library.specs.Kinds.{is_number_of, kind_in}
 use Rattle.phone_plans.specs.Records.{has_code, has_id}
 use Rattle.phone_records.specs.declared.loader.Metadata.{Metadata}
-use Rattle.phone_rules.specs.Kinds.{is_known}
+use Rattle.phone_read.specs.Kinds.{is_known}
 use Rattle.phone_questions.specs.Kinds.{is_geographical_kind}
 use Rattle.phone_questions.specs.Regions.{territory_of}
 

@@ -17,7 +17,7 @@ use Rattle.phone_values.specs.declared.validator.Validation.TheVariants.{TooLong
 use Rattle.phone_plans.specs.CodeLookUps.{first_of, territories}
 use Rattle.phone_records.specs.declared.loader.Descriptor.{Descriptor}
 use Rattle.phone_records.specs.declared.loader.Metadata.{Metadata}
-use Rattle.phone_rules.specs.Verdicts.{general_lengths}
+use Rattle.phone_read.specs.Verdicts.{general_lengths}
 use Rattle.phone_territory.specs.Kinds.{descriptor_for, kinds_of}
 
 -- the kinds that a kind means: fixed line or mobile means both

@@ -2,7 +2,7 @@
 ghost use Rattle.std.specs.Prelude.{◌≡◌, IfOk, Some, false};
 ghost use Rattle.std.specs.Option.{option_and_then, option_copied, option_map_or};
 ghost use Rattle.phone_library.specs.Kinds.{is_number_of};
-ghost use Rattle.phone_rules.specs.Kinds.{is_known};
+ghost use Rattle.phone_read.specs.Kinds.{is_known};
 ghost use Rattle.phone_questions.specs.Belonging.{is_dialled_from_abroad, is_geographical};
 ghost use Rattle.phone_questions.specs.Belonging.{is_dialled_by_region, is_home_number};
 ghost use Rattle.phone_questions.specs.Belonging.{is_known_in, is_valid_for, territory_with};

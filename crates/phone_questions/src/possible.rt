@@ -2,7 +2,7 @@
 ghost use Rattle.std.specs.Prelude.{◌≡◌, ◌&&◌, ◌||◌, ◌==◌, ◌∷◌, [], length, nat_lt};
 ghost use Rattle.std.specs.List.{cons_option, list_all};
 ghost use Rattle.std.specs.Option.{option_copied};
-ghost use Rattle.phone_rules.specs.Verdicts.{general_lengths};
+ghost use Rattle.phone_read.specs.Verdicts.{general_lengths};
 ghost use Rattle.phone_values.specs.Numbers.{text_of};
 ghost use Rattle.phone_questions.specs.Possible.{is_among, lengths_by, possibility_as};
 ghost use Rattle.phone_questions.specs.Possible.{verdict_by, verdict_in, verdict_on, verdict_told};

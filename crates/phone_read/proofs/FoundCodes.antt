@@ -15,7 +15,7 @@ use Rattle.phone_plans.specs.CodeLookUps.{is_listed, shortest}
 use Rattle.phone_records.specs.declared.loader.Metadata.{Metadata}
 use Rattle.phone_parts.specs.declared.number.Number.{Number as Parts}
 use Rattle.phone_read.specs.CallingCodes.{IsCoded, code_by, code_by_front, code_by_prefix, code_of, dialled_under, international_prefix_of, prefix_of, with_three}
-use Rattle.phone_rules.specs.Dialling.{dialled, found_in}
+use Rattle.phone_read.specs.Dialling.{dialled, found_in}
 use Rattle.phone_read.specs.Hints.{Coded, hinted}
 
 -- the code is told by the source and the digits that the way of dialling gives

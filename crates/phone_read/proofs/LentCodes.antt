@@ -5,7 +5,7 @@ use Rattle.phone_values.specs.declared.error.ParseError.{ParseError}
 use Rattle.phone_records.specs.declared.loader.Metadata.{Metadata}
 use Rattle.phone_parts.specs.Parts.{parts_of}
 use Rattle.phone_parts.specs.declared.number.Number.{Number as Parts}
-use Rattle.phone_rules.proofs.Results.{err_again}
+use Rattle.phone_read.proofs.Results.{err_again}
 use Rattle.phone_read.specs.CallingCodes.{KeepsLentCode, code_of}
 use Rattle.phone_read.specs.WithoutMemory.{AnswersWithoutMemory}
 

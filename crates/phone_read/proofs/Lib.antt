@@ -1,6 +1,11 @@
+pub mod BareParts
+pub mod DecimalFronts
+pub mod DigitTexts
 pub mod FoundCodes
 pub mod HintCodes
+pub mod Lengths
 pub mod LentCodes
+pub mod LentParts
 pub mod ListedCodes
 pub mod ListedFronts
 pub mod ReadNumbers
@@ -8,4 +13,6 @@ pub mod ReadingOnes
 pub mod ReadingRows
 pub mod ReadingSome
 pub mod Regional
+pub mod Results
 pub mod ToldKinds
+pub mod TriedKinds

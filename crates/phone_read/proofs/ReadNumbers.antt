@@ -37,16 +37,16 @@ use Rattle.phone_plans.specs.Records.{has_id, last_where, last_with}
 use Rattle.phone_records.specs.declared.loader.Metadata.{Metadata}
 use Rattle.phone_parts.specs.Parts.{Parts}
 use Rattle.phone_parts.specs.Texts.{is_front, without_front}
-use Rattle.phone_rules.specs.Dialling.{after_match, dialled, found_in, unsigned}
+use Rattle.phone_read.specs.Dialling.{after_match, dialled, found_in, unsigned}
 use Rattle.phone_read.specs.CallingCodes.{code_by, code_by_front, code_by_prefix, code_of, dialled_under, international_prefix_of, with_three}
 use Rattle.phone_read.specs.Hints.{Coded, code_by_hint, hinted, looks_national}
-use Rattle.phone_rules.specs.Kinds.{is_of}
+use Rattle.phone_read.specs.Kinds.{is_of}
 use Rattle.phone_read.specs.Readings
 use Rattle.phone_read.specs.Readings.{Reads, stripping_territory, without_zeros}
 use Rattle.phone_read.specs.Regions.{home, region_of, territory_of}
-use Rattle.phone_rules.specs.Strips.{Cut, Stripped, anew, by_match, held, left_by, off_prefix, stay, step, strip, stripped}
+use Rattle.phone_read.specs.Strips.{Cut, Stripped, anew, by_match, held, left_by, off_prefix, stay, step, strip, stripped}
 use Rattle.phone_read.specs.TransformRules.{rules_have_no_plus}
-use Rattle.phone_rules.specs.Verdicts.{is_too_short, verdict}
+use Rattle.phone_read.specs.Verdicts.{is_too_short, verdict}
 use Rattle.phone_values.specs.declared.reading.Reading.{Reading}
 use Rattle.phone_read.proofs.ListedCodes.{code_of-listed}
 use Rattle.phone_read.proofs.ListedFronts.{listed_none}

@@ -12,7 +12,7 @@ use Rattle.phone_read.specs.Numbering.{reading_of}
 use Rattle.phone_parts.specs.Readers.{HasParts}
 use Rattle.phone_read.specs.Readings
 use Rattle.phone_read.specs.Readings.{Reads, stripping_territory}
-use Rattle.phone_rules.specs.Strips.{stripped}
+use Rattle.phone_read.specs.Strips.{stripped}
 use Rattle.phone_parts.specs.Parts.{Parts}
 use Rattle.phone_values.specs.declared.reading.Reading.{Reading}
 

@@ -18,7 +18,7 @@ use Rattle.phone_plans.specs.CodeLookUps.{first_of, is_main_of, is_other_of, reg
 use Rattle.phone_plans.specs.Lasts.{with_last}
 use Rattle.phone_territory.specs.Records.{id_of}
 use Rattle.phone_plans.specs.Records.{has_code, last_with}
-use Rattle.phone_rules.proofs.TriedKinds.{find-map}
+use Rattle.phone_read.proofs.TriedKinds.{find-map}
 use Rattle.phone_read.specs.Origins.{Given, by_name, first_given, first_other, latest_main, told}
 use Rattle.phone_read.specs.declared.validator.Origin.{Origin}
 use Rattle.phone_read.specs.Regions.{is_of_last, is_of_region, region_among, region_named, region_of, territory_of, with_territory}

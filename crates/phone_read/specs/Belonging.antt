@@ -1,7 +1,7 @@
 -- Whether a number belongs to a territory, as the code holds it.
 use Rattle.std.specs.Prelude.{◌≡◌, ℕ, Bool, true, false, List}
 use Rattle.phone_records.specs.declared.loader.Metadata.{Metadata}
-use Rattle.phone_rules.specs.Kinds.{type_of}
+use Rattle.phone_read.specs.Kinds.{type_of}
 use Rattle.phone_read.specs.declared.belonging.Belonging.{Belonging}
 use Rattle.phone_read.specs.declared.belonging.Belonging.TheVariants.{No, ByDigits, ByKind}
 

@@ -17,8 +17,8 @@ use Rattle.phone_values.specs.declared.error.ParseError.TheVariants.{MalformedIn
 use Rattle.phone_plans.specs.CodeLookUps.{is_listed, shortest}
 use Rattle.phone_records.specs.declared.loader.Metadata.{Metadata}
 use Rattle.phone_parts.specs.declared.number.Number.{Number as Parts}
-use Rattle.phone_rules.specs.Dialling.{Dialled, dialled, found_in}
-use Rattle.phone_rules.specs.Lent.{KeepsLent}
+use Rattle.phone_read.specs.Dialling.{Dialled, dialled, found_in}
+use Rattle.phone_read.specs.Lent.{KeepsLent}
 use Rattle.phone_read.specs.Hints.{Coded, hinted, code_by_hint}
 
 -- the international prefix of a territory

@@ -12,8 +12,8 @@ use Rattle.phone_territory.specs.Records.{code_of}
 use Rattle.phone_plans.specs.Records.{last_with}
 use Rattle.phone_records.specs.declared.loader.Metadata.{Metadata}
 use Rattle.phone_parts.specs.Texts.{is_front}
-use Rattle.phone_rules.specs.Kinds.{is_of}
-use Rattle.phone_rules.specs.Verdicts.{verdict}
+use Rattle.phone_read.specs.Kinds.{is_of}
+use Rattle.phone_read.specs.Verdicts.{verdict}
 
 -- a calling code, how it was found, and the digits that follow it
 pub record Coded : Type 0 where

@@ -1,10 +1,16 @@
 pub mod Belonging
 pub mod CallingCodes
+pub mod Dialling
+pub mod HeldCuts
 pub mod Hints
+pub mod Kinds
+pub mod Lent
 pub mod Numbering
 pub mod Origins
 pub mod Readings
 pub mod Regions
 pub mod Samples
+pub mod Strips
 pub mod TransformRules
+pub mod Verdicts
 pub mod WithoutMemory

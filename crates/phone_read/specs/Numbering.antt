@@ -4,7 +4,7 @@ use Rattle.std.specs.Result.{result_map_both}
 use Rattle.phone_values.specs.Nsn.{nsn}
 use Rattle.phone_values.specs.declared.error.ParseError.{ParseError}
 use Rattle.phone_read.specs.Hints.{Coded}
-use Rattle.phone_rules.specs.Strips.{Stripped}
+use Rattle.phone_read.specs.Strips.{Stripped}
 use Rattle.phone_values.specs.declared.reading.Reading.{Reading}
 
 -- the code, the national number that the digits give, an extension, and the carrier that was named;

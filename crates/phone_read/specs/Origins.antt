@@ -4,7 +4,7 @@ use Rattle.std.specs.List.{find}
 use Rattle.std.specs.Option.{option_copied, option_or}
 use Rattle.either.specs.declared.Either.{Either}
 use Rattle.phone_values.specs.declared.country.Id.{Id}
-use Rattle.phone_rules.specs.Kinds.{type_of}
+use Rattle.phone_read.specs.Kinds.{type_of}
 use Rattle.phone_territory.specs.Records.{id_of}
 use Rattle.phone_read.specs.Regions.{region_named}
 use Rattle.phone_read.specs.declared.validator.Found.{Found}

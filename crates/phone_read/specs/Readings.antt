@@ -13,7 +13,7 @@ use Rattle.phone_read.specs.CallingCodes.{code_of}
 use Rattle.phone_read.specs.Hints.{Coded, hinted}
 use Rattle.phone_read.specs.Numbering.{reading_of}
 use Rattle.phone_read.specs.Regions.{home}
-use Rattle.phone_rules.specs.Strips.{stripped}
+use Rattle.phone_read.specs.Strips.{stripped}
 use Rattle.phone_values.specs.declared.reading.Reading.{Reading}
 
 -- digits without their leading zeros

@@ -8,7 +8,7 @@ use Rattle.either.specs.declared.Either.{Either}
 use Rattle.either.specs.declared.Either.TheVariants.{Left, Right}
 use Rattle.phone_values.specs.Ids.{name, id_of}
 use Rattle.phone_values.specs.declared.country.Id.{Id}
-use Rattle.phone_rules.specs.Kinds.{belongs_to}
+use Rattle.phone_read.specs.Kinds.{belongs_to}
 use Rattle.phone_plans.specs.CodeLookUps.{first_of, regions, territories}
 use Rattle.phone_plans.specs.Records.{last_with}
 use Rattle.phone_records.specs.declared.loader.Metadata.{Metadata}

@@ -7,7 +7,7 @@ use Rattle.phone_values.specs.declared.error.ParseError.TheVariants.{Memory}
 use Rattle.phone_records.specs.declared.loader.Metadata.{Metadata}
 use Rattle.phone_parts.specs.Parts.{parts_of}
 use Rattle.phone_parts.specs.declared.number.Number.{Number as Parts}
-use Rattle.phone_rules.specs.Dialling.{is_bare, is_plain}
+use Rattle.phone_read.specs.Dialling.{is_bare, is_plain}
 use Rattle.phone_read.specs.CallingCodes.{code_of, international_prefix_of}
 use Rattle.phone_read.specs.Hints.{Coded, hinted}
 

@@ -1,11 +1,11 @@
 //! Whether a number belongs to a territory, and its kind there, where that was to be known.
 ghost use Rattle.std.specs.Prelude.{◌≡◌, ℕ, List, IfOk};
 ghost use Rattle.phone_records.specs.declared.loader.Metadata as loader;
-ghost use Rattle.phone_rules.specs.Kinds.{belongs_to, is_known, type_of};
+ghost use Rattle.phone_read.specs.Kinds.{belongs_to, is_known, type_of};
 ghost use Rattle.phone_read.specs.Belonging.{IsOfKind, is_member};
 
+use crate::kinds::number_type_in;
 use phone_plans::Territory;
-use phone_rules::kinds::number_type_in;
 use phone_territory::Subject;
 use phone_values::Type;
 use std::alloc::AllocError;

@@ -3,8 +3,8 @@ ghost use Rattle.std.specs.Prelude.{◌≡◌, IfOk};
 ghost use Rattle.std.specs.Option.{option_copied};
 ghost use Rattle.phone_read.specs.Hints.{hinted, looks_national};
 
+use crate::kinds::{is_general, length_of};
 use phone_plans::{Plans, Territory};
-use phone_rules::kinds::{is_general, length_of};
 use phone_values::Type;
 use phone_values::country::Id;
 use std::alloc::AllocError;

@@ -4,7 +4,7 @@ ghost use Rattle.std.specs.Prelude.{codes, option_map};
 ghost use Rattle.std.specs.Option.{option_and_then, option_copied};
 ghost use Rattle.std.specs.Str.{bytes_eq};
 ghost use Rattle.either.specs.declared.Either.TheVariants as either;
-ghost use Rattle.phone_rules.specs.Kinds.{type_of};
+ghost use Rattle.phone_read.specs.Kinds.{type_of};
 ghost use Rattle.phone_plans.specs.Lasts.{seen};
 ghost use Rattle.phone_territory.specs.Records.{id_of};
 ghost use Rattle.phone_read.specs.Belonging.{IsOfKind, is_member};
@@ -14,9 +14,9 @@ ghost use Rattle.phone_read.specs.Regions.{home, is_of_last, region_named, regio
 ghost use Rattle.phone_read.specs.Regions.{with_territory};
 
 use crate::belonging::{Belonging, membership};
+pub use crate::kinds::{is_general, length, length_of, number_type};
 use either::{Either, Left, Right};
 use phone_plans::{Plans, Territory, WithLast, WithLasts};
-pub use phone_rules::kinds::{is_general, length, length_of, number_type};
 use phone_territory::Subject;
 use phone_values::Type;
 use phone_values::consts::REGION_CODE_FOR_NON_GEO_ENTITY;

@@ -4,7 +4,7 @@ use Rattle.std.specs.Prelude.{◌≡◌, ◌⊎◌, ℕ, true, false, List, ◌+
 use Rattle.std.specs.Prelude.{length, Option, Some, None, option_map}
 use Rattle.phone_values.specs.declared.country.Id.{Id}
 use Rattle.phone_values.specs.declared.reading.Reading.{Reading}
-use Rattle.phone_countries.specs.declared.countries.Entry.{Entry}
+use Rattle.phone_places.specs.declared.countries.Entry.{Entry}
 use Rattle.phone_csv.specs.Formats.{Record}
 use Rattle.phone_records.specs.declared.loader.Metadata.{Metadata}
 use Rattle.phone_values.specs.declared.rules.Rules.{Rules}

@@ -3,9 +3,9 @@ use Rattle.std.specs.Prelude.{◌≡◌, ℕ, ◌==◌, Bool, List, [], length, 
 use Rattle.std.specs.Prelude.{if◌then◌else◌, Option, Some, None}
 use Rattle.std.specs.Str.{IsUtf8, trim}
 use Rattle.csv.specs.Records.{field_at}
-use Rattle.phone_countries.specs.Ids.{id_in}
-use Rattle.phone_countries.specs.Names.{region_named}
-use Rattle.phone_countries.specs.declared.countries.Entry.{Entry}
+use Rattle.phone_places.specs.Ids.{id_in}
+use Rattle.phone_places.specs.Names.{region_named}
+use Rattle.phone_places.specs.declared.countries.Entry.{Entry}
 use Rattle.phone_records.specs.declared.loader.Metadata.{Metadata}
 use Rattle.phone_values.specs.declared.country.Id.{Id}
 use Rattle.phone_csv.specs.Formats.{Record}

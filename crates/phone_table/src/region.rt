@@ -6,7 +6,7 @@ ghost use Rattle.phone_table.specs.Regions.{RegionText, TextOf, hint_under, name
 use crate::header::Columns;
 use crate::table::field_in;
 use csv::ByteRecord;
-use phone_countries::{Countries, id_in, region_named};
+use phone_places::{Countries, id_in, region_named};
 use phone_plans::Plans;
 use phone_values::country::Id;
 use std::alloc::AllocError;

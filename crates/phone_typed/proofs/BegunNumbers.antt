@@ -14,7 +14,7 @@ use Rattle.phone_values.specs.declared.country.Id.{Id}
 use Rattle.phone_values.specs.declared.mode.Mode.{Mode}
 use Rattle.phone_values.specs.declared.mode.Mode.TheVariants.{International, National as Nationally}
 use Rattle.phone_values.specs.declared.reading.Reading.{Reading}
-use Rattle.phone_rules.specs.Strips.{step}
+use Rattle.phone_read.specs.Strips.{step}
 use Rattle.phone_print.specs.Texts.{extension_part, international_text, laid_out, national_text}
 use Rattle.phone_records.specs.declared.loader.Metadata.{Metadata}
 use Rattle.phone_typed.specs.Beginnings.{IsBegun}

@@ -3,7 +3,7 @@ use Rattle.std.proofs.Common.{◌≡◌, ℕ, ◌==◌, true, false, List, [], �
 use Rattle.std.proofs.lemmas.Bool.{cond-false, cond-true, false_from_ne_true, or_right}
 use Rattle.std.specs.Option.{option_map_or}
 use Rattle.phone_values.specs.declared.country.Id.{Id}
-use Rattle.phone_rules.specs.Strips.{step}
+use Rattle.phone_read.specs.Strips.{step}
 use Rattle.phone_records.specs.declared.loader.Metadata.{Metadata}
 use Rattle.phone_typed.specs.Keys.{HasNoPlus}
 use Rattle.phone_typed.specs.Typed.{is_short, layout_territory, text_at, typed}

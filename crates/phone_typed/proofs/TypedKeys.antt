@@ -14,7 +14,7 @@ use Rattle.phone_values.specs.declared.mode.Mode.TheVariants.{International, Nat
 use Rattle.phone_plans.specs.CodeLookUps.{first_of, shortest, territories}
 use Rattle.phone_print.specs.Layouts.{layouts_for, template_for}
 use Rattle.phone_territory.specs.Layouts.{laid_by}
-use Rattle.phone_rules.specs.Strips.{step}
+use Rattle.phone_read.specs.Strips.{step}
 use Rattle.phone_records.specs.Missing.{first_given}
 use Rattle.phone_records.specs.declared.loader.Format.{Format}
 use Rattle.phone_records.specs.declared.loader.Metadata.{Metadata}

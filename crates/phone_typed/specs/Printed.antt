@@ -9,7 +9,7 @@ use Rattle.phone_values.specs.declared.mode.Mode.{Mode}
 use Rattle.phone_values.specs.declared.mode.Mode.TheVariants.{International, National}
 use Rattle.phone_values.specs.declared.reading.Reading.{Reading}
 use Rattle.phone_plans.specs.CodeLookUps.{first_of, shortest, territories}
-use Rattle.phone_rules.specs.Strips.{step}
+use Rattle.phone_read.specs.Strips.{step}
 use Rattle.phone_print.specs.Layouts.{layouts_for}
 use Rattle.phone_print.specs.Texts.{laid_out, national_text}
 use Rattle.phone_records.specs.declared.loader.Format.{Format}

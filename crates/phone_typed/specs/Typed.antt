@@ -9,7 +9,7 @@ use Rattle.phone_values.specs.declared.country.Id.{Id}
 use Rattle.phone_values.specs.declared.mode.Mode.{Mode}
 use Rattle.phone_values.specs.declared.mode.Mode.TheVariants.{International, National}
 use Rattle.phone_plans.specs.CodeLookUps.{first_of, shortest, territories}
-use Rattle.phone_rules.specs.Strips.{step}
+use Rattle.phone_read.specs.Strips.{step}
 use Rattle.phone_print.specs.Layouts.{layouts_for, template_for}
 use Rattle.phone_read.specs.Hints.{hinted}
 use Rattle.phone_records.specs.Missing.{first_given}

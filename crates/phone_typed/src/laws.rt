@@ -12,7 +12,7 @@ ghost use Rattle.phone_values.specs.declared.reading.Reading.{Reading};
 ghost use Rattle.phone_library_text.specs.Written.{IsWritten, most_characters};
 ghost use Rattle.phone_library_text.specs.declared.written.WrittenNumber.{WrittenNumber};
 ghost use Rattle.phone_print.specs.Texts.{e164_text, international_text, national_text};
-ghost use Rattle.phone_rules.specs.Strips.{step};
+ghost use Rattle.phone_read.specs.Strips.{step};
 ghost use Rattle.phone_records.specs.declared.loader.Metadata as loader;
 ghost use Rattle.phone_typed.specs.Beginnings.{IsBegun};
 ghost use Rattle.phone_typed.specs.Keys.{is_key, is_mark, key_of, keys_in, up_to_key, with_key};

@@ -5,13 +5,13 @@ ghost use Rattle.std.specs.Cow.{cow_str_bytes};
 ghost use Rattle.std.specs.Option.{option_copied};
 ghost use Rattle.phone_parts.specs.Texts.{without_front};
 ghost use Rattle.phone_records.specs.declared.loader.Metadata as loader;
-ghost use Rattle.phone_rules.specs.Kinds.{is_of};
-ghost use Rattle.phone_rules.specs.Strips.{step};
+ghost use Rattle.phone_read.specs.Kinds.{is_of};
+ghost use Rattle.phone_read.specs.Strips.{step};
 ghost use Rattle.phone_territory.specs.First.{replaced};
 
 use phone_base::results::{in_place_of, zip_value};
-use phone_rules::kinds::is_general;
-use phone_rules::trims::has_front;
+use phone_read::kinds::is_general;
+use phone_read::trims::has_front;
 use phone_territory::{Pattern, Territory};
 use std::alloc::AllocError;
 use std::borrow::CowStr;

@@ -18,7 +18,7 @@ use crate::stripping::national_digits;
 use phone_base::results::in_place_of;
 use phone_plans::{Plans, Territory};
 use phone_print::written::ROOM;
-use phone_rules::trims::behind_number;
+use phone_read::trims::behind_number;
 use phone_values::Mode;
 use phone_values::country::Id;
 use std::alloc::AllocError;

@@ -33,13 +33,13 @@ use Rattle.phone_parts.specs.Readers.{HasParts}
 use Rattle.phone_parts.specs.Texts.{begins, ends}
 use Rattle.phone_read.proofs.FoundCodes.{code_by-front}
 use Rattle.phone_read.proofs.ListedFronts.{listed_some, more_than_two}
-use Rattle.phone_rules.specs.Dialling.{Dialled, after_match, dialled, found_in, source_of, unsigned}
+use Rattle.phone_read.specs.Dialling.{Dialled, after_match, dialled, found_in, source_of, unsigned}
 use Rattle.phone_read.specs.CallingCodes.{code_by, code_by_front, code_of, dialled_under, international_prefix_of}
 use Rattle.phone_read.specs.Hints.{Coded, hinted}
 use Rattle.phone_read.specs.Numbering.{reading_of}
 use Rattle.phone_read.specs.Readings
 use Rattle.phone_read.specs.Readings.{Reads}
-use Rattle.phone_rules.specs.Strips.{stripped}
+use Rattle.phone_read.specs.Strips.{stripped}
 use Rattle.phone_values.specs.declared.reading.Reading.{Reading}
 use Rattle.phonenumber.specs.Bounds.{IsBounded}
 use Rattle.phone_print.specs.Texts.{extension_part, laid_out}

@@ -13,9 +13,9 @@ use Rattle.phone_territory.specs.Records.{allows_length, matches, pattern_of}
 use Rattle.phone_territory.specs.First.{at_start}
 use Rattle.phone_records.specs.declared.loader.Descriptor.{Descriptor}
 use Rattle.phone_records.specs.declared.loader.Metadata.{Metadata}
-use Rattle.phone_rules.specs.Kinds.{is_of}
+use Rattle.phone_read.specs.Kinds.{is_of}
 use Rattle.phone_read.specs.Regions.{home}
-use Rattle.phone_rules.specs.Kinds.{is_known, is_one_pattern, line_or_mobile, tried_kinds, type_of}
+use Rattle.phone_read.specs.Kinds.{is_known, is_one_pattern, line_or_mobile, tried_kinds, type_of}
 use Rattle.phone_values.specs.declared.reading.Reading.{Reading}
 use Rattle.phonenumber.specs.Queries.{is_valid}
 use Rattle.phone_util.specs.Possibilities.{counting_descriptors, has_listed_kind, is_among, kind_descriptors}

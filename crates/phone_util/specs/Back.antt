@@ -12,9 +12,9 @@ use Rattle.phone_territory.specs.Records.{code_of}
 use Rattle.phone_plans.specs.CodeLookUps.{is_prefix_free}
 use Rattle.phone_plans.specs.Records.{last_with}
 use Rattle.phone_records.specs.declared.loader.Metadata.{Metadata}
-use Rattle.phone_rules.specs.Dialling.{after_match, found_in}
+use Rattle.phone_read.specs.Dialling.{after_match, found_in}
 use Rattle.phone_read.specs.Readings.{Reads}
-use Rattle.phone_rules.specs.Strips.{strip}
+use Rattle.phone_read.specs.Strips.{strip}
 use Rattle.phone_values.specs.declared.reading.Reading.{Reading}
 use Rattle.phonenumber.specs.RoundTrips.{IsSame}
 use Rattle.phonenumber.specs.Plain.{IsAnnouncedSafely, IsPlainInternational}

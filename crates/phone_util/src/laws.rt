@@ -6,7 +6,7 @@ ghost use Rattle.std.specs.List.{list_any};
 ghost use Rattle.phone_values.specs.Numbers.{text_of};
 ghost use Rattle.phone_values.specs.declared.error.ParseError.{ParseError};
 ghost use Rattle.phone_values.specs.declared.mode.Mode.TheVariants as mode;
-ghost use Rattle.phone_rules.specs.Verdicts.{general_lengths};
+ghost use Rattle.phone_read.specs.Verdicts.{general_lengths};
 ghost use Rattle.phone_library.specs.Facts.{is_valid_number, territory_of_number};
 ghost use Rattle.phone_library.specs.Lengths.{local_lengths};
 ghost use Rattle.phone_library_laws.specs.Lengths.{is_ascending};

@@ -20,7 +20,7 @@ use phone_engine::{Engine, Rules};
 use phone_library::length_in;
 use phone_plans::{Descriptor, Plans, Territory};
 use phone_read::validator::territory_of;
-use phone_rules::kinds::TRIED;
+use phone_read::kinds::TRIED;
 use phone_values::{ParseError, Type, Validation};
 use phonenumber::PhoneNumber;
 use std::alloc::{AllocError, Global};

@@ -27,7 +27,7 @@ use Rattle.phone_read.specs.Numbering.{reading_of}
 use Rattle.phone_read.specs.Readings
 use Rattle.phone_read.specs.Readings.{Reads, without_zeros}
 use Rattle.phone_read.specs.Regions.{home}
-use Rattle.phone_rules.specs.Strips.{Stripped, stripped}
+use Rattle.phone_read.specs.Strips.{Stripped, stripped}
 use Rattle.phone_read.specs.TransformRules.{rules_have_no_plus}
 use Rattle.phone_values.specs.declared.reading.Reading.{Reading}
 use Rattle.phonenumber.specs.RoundTrips.{IsReadAs}

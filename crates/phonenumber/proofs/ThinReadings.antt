@@ -13,7 +13,7 @@ use Rattle.phone_records.specs.declared.loader.Metadata.{Metadata}
 use Rattle.phone_records.specs.Empty.{no_metadata}
 use Rattle.phone_plans.specs.Records.{last_with, has_id}
 use Rattle.phone_read.specs.CallingCodes.{code_by, code_of, international_prefix_of}
-use Rattle.phone_rules.specs.Dialling.{found_in}
+use Rattle.phone_read.specs.Dialling.{found_in}
 use Rattle.phone_parts.specs.Cores.{IsCore, is_start}
 use Rattle.phone_read.specs.Hints.{Coded, hinted, code_by_hint}
 use Rattle.phone_parts.specs.Naturals
@@ -22,11 +22,11 @@ use Rattle.phone_read.specs.Readings
 use Rattle.phone_parts.specs.Readers
 use Rattle.phone_parts.specs.Readers.{HasParts}
 use Rattle.phone_read.specs.Readings.{Reads, stripping_territory}
-use Rattle.phone_rules.specs.Strips.{Stripped, strip, stripped}
+use Rattle.phone_read.specs.Strips.{Stripped, strip, stripped}
 use Rattle.phone_parts.specs.Parts.{Parts}
 use Rattle.phone_parts.specs.Tel.{IsTel, is_phonedigit}
 use Rattle.phone_parts.specs.Texts.{begins, without_front}
-use Rattle.phone_rules.specs.Verdicts.{verdict, is_too_short}
+use Rattle.phone_read.specs.Verdicts.{verdict, is_too_short}
 use Rattle.phone_values.specs.declared.country.Source.TheVariants.{Default}
 use Rattle.phone_parts.specs.declared.natural.NoReading.TheVariants.{Error}
 use Rattle.phone_values.specs.declared.reading.Reading.{Reading}

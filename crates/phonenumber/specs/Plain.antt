@@ -13,7 +13,7 @@ use Rattle.phone_parts.specs.Texts.{ends}
 use Rattle.phone_records.specs.declared.loader.Metadata.{Metadata}
 use Rattle.phone_read.specs.Readings.{without_zeros}
 use Rattle.phone_read.specs.Regions.{home}
-use Rattle.phone_rules.specs.Strips.{strip}
+use Rattle.phone_read.specs.Strips.{strip}
 use Rattle.phone_values.specs.declared.reading.Reading.{Reading}
 use Rattle.phone_print.specs.Texts.{laid_out}
 

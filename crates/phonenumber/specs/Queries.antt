@@ -10,7 +10,7 @@ use Rattle.phone_values.specs.declared.kind.«Type».{«Type»}
 use Rattle.phone_values.specs.declared.kind.«Type».TheVariants.{Unknown}
 use Rattle.phone_records.specs.declared.loader.Metadata.{Metadata}
 use Rattle.phone_read.specs.Regions.{home}
-use Rattle.phone_rules.specs.Kinds.{is_known, type_of}
+use Rattle.phone_read.specs.Kinds.{is_known, type_of}
 use Rattle.phone_values.specs.declared.reading.Reading.{Reading}
 
 -- its territory: the home of its value, without leading zeros

@@ -16,7 +16,7 @@ use Rattle.phone_records.specs.declared.loader.Metadata.{Metadata}
 use Rattle.phone_read.specs.Hints.{Coded, code_by_hint, hinted}
 use Rattle.phone_read.specs.Numbering.{reading_of}
 use Rattle.phone_parts.specs.Texts.{ends, without_front}
-use Rattle.phone_rules.specs.Verdicts.{verdict, is_too_short}
+use Rattle.phone_read.specs.Verdicts.{verdict, is_too_short}
 use Rattle.phone_values.specs.declared.reading.Reading.{Reading}
 
 -- one record, which has a general descriptor, an id, a calling code and perhaps a national prefix,

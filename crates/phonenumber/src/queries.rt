@@ -4,7 +4,7 @@ ghost use Rattle.std.specs.Option.{option_and_then, option_copied, option_map_or
 ghost use Rattle.phone_values.specs.Ids.{id_of};
 ghost use Rattle.phone_values.specs.declared.kind.«Type».TheVariants.{Unknown};
 ghost use Rattle.phone_read.specs.Regions.{home};
-ghost use Rattle.phone_rules.specs.Kinds.{is_known, type_of};
+ghost use Rattle.phone_read.specs.Kinds.{is_known, type_of};
 ghost use Rattle.phone_records.specs.declared.loader.Metadata as loader;
 ghost use Rattle.phonenumber.specs.Queries.{is_valid, kind_of_number, region_of_number};
 ghost use Rattle.phonenumber.specs.Queries.{territory_of_number};

@@ -2,9 +2,10 @@
 use crate::given::{number, refusal, region, shown};
 use crate::layouts::layouts;
 use anyhow::Result;
-use phone_dialling::{dialled_text, mobile_text, original_text, text_by_layouts, text_in};
-use phone_further::{mobile_text_in, own_layouts_text};
-use phone_letters::{dialled_with_letters, text_with_letters};
+use phone_dialling::{
+    dialled_text, dialled_with_letters, mobile_text, original_text, text_in, text_with_letters,
+};
+use phone_further::{mobile_text_in, own_layouts_text, text_by_layouts};
 use phone_meta::Database;
 use phone_plans::{Format, Plans};
 use phonenumber::PhoneNumber;

@@ -3,8 +3,8 @@
 //! each character, `keyed-caret` after how many of what is shown at last each stands, with vertical
 //! bars between.
 use anyhow::{Result, anyhow};
-use phone_keyed::Keyed;
 use phone_meta::Database;
+use phone_typed::Keyed;
 use phone_values::country::Id;
 use replay_base::table::Row;
 use replay_base::words::hint;

@@ -3,7 +3,7 @@ use Rattle.std.proofs.lemmas.Option.{none-some}
 use Rattle.std.specs.Fmt.{digits}
 use Rattle.phone_library_laws.specs.Prefixes.{IsDialledFor, IsPrefixed}
 use Rattle.phone_library_laws.specs.Prefixes as prefixes
-use Rattle.phone_rules.specs.Dialling.{after_match}
+use Rattle.phone_read.specs.Dialling.{after_match}
 use Rattle.phone_values.specs.Ids.{id_of, name}
 use Rattle.headline_examples.proofs.Laid.{nz_general}
 use Rattle.headline_examples.proofs.Prefixed.{nz_home}

@@ -7,7 +7,7 @@ use Rattle.phone_values.specs.declared.mode.Mode.TheVariants.{National}
 use Rattle.phone_library_text.specs.Written.{most_characters}
 use Rattle.phone_print.specs.Texts.{laid_out_by}
 use Rattle.phone_values.specs.declared.rules.Rules.{Rules}
-use Rattle.phone_rules.specs.Strips.{Stripped}
+use Rattle.phone_read.specs.Strips.{Stripped}
 use Rattle.phonenumber.proofs.BackTexts.{IsUtf8-low}
 use Rattle.phone_library_back.specs.Layouts.{IsLaidOut, is_quiet}
 use Rattle.phone_library_back.specs.Plain.{IsDialledInside}

@@ -17,9 +17,9 @@ use Rattle.phone_read.specs.Hints.{Coded, hinted}
 use Rattle.phone_records.specs.declared.loader.Metadata.{Metadata}
 use Rattle.phone_values.specs.declared.error.ParseError.{ParseError}
 use Rattle.phone_read.specs.Readings as first_reading
-use Rattle.phone_rules.specs.Dialling.{after_match}
-use Rattle.phone_rules.specs.Strips as first
-use Rattle.phone_rules.specs.Strips.{Stripped}
+use Rattle.phone_read.specs.Dialling.{after_match}
+use Rattle.phone_read.specs.Strips as first
+use Rattle.phone_read.specs.Strips.{Stripped}
 use Rattle.headline_examples.proofs.Kept.{behind_told, stripped_kept}
 use Rattle.headline_examples.proofs.Prefixed.{nz_own, us_prefix}
 use Rattle.headline_examples.specs.Samples.{db_b, nz, us}

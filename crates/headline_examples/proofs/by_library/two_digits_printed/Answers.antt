@@ -4,7 +4,7 @@ use Rattle.std.specs.Fmt.{digits}
 use Rattle.std.specs.Str.{chars}
 use Rattle.phone_values.specs.Ids.{name}
 use Rattle.phone_library_text.specs.Written.{most_characters}
-use Rattle.phone_rules.specs.Strips.{Stripped}
+use Rattle.phone_read.specs.Strips.{Stripped}
 use Rattle.phonenumber.proofs.BackTexts.{IsUtf8-low}
 use Rattle.phone_library_back.specs.Layouts.{IsLaidOut, is_quiet}
 use Rattle.phone_library_back.specs.Plain.{IsDialledInside}

@@ -1,4 +1,4 @@
-use Rattle.phone_rules.specs.Dialling.{after_match}
+use Rattle.phone_read.specs.Dialling.{after_match}
 use Rattle.std.proofs.Common.{None, ap, codes, refl, arith, inl}
 use Rattle.std.specs.Fmt.{digits}
 use Rattle.std.specs.Str.{chars}

@@ -2,7 +2,7 @@ use Rattle.std.proofs.Common.{◌≡◌, ⊎_elim, length, codes, refl, sym, ap,
 use Rattle.std.proofs.lemmas.Option.{none-some, same_Some}
 use Rattle.std.specs.Fmt.{digits}
 use Rattle.phone_values.specs.Ids.{id_of, name}
-use Rattle.phone_rules.specs.Strips.{strip}
+use Rattle.phone_read.specs.Strips.{strip}
 use Rattle.phonenumber.specs.Plain.{IsLeftAlone}
 use Rattle.headline_examples.proofs.ByText.{is_plain}
 use Rattle.headline_examples.specs.Samples.{db_b, nz}

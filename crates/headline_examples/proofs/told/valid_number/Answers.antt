@@ -6,8 +6,8 @@ use Rattle.phone_values.specs.declared.kind.«Type».{«Type»}
 use Rattle.phone_values.specs.declared.kind.«Type».TheVariants.{TollFree, Unknown}
 use Rattle.phone_library.specs.Kinds as library_kinds
 use Rattle.phone_records.specs.declared.loader.Descriptor.{Descriptor}
-use Rattle.phone_rules.specs.Kinds as crate_kinds
-use Rattle.phone_rules.specs.Kinds.{is_known}
+use Rattle.phone_read.specs.Kinds as crate_kinds
+use Rattle.phone_read.specs.Kinds.{is_known}
 use Rattle.phone_territory.specs.Kinds.{descriptor_for, kinds_of}
 use Rattle.phone_util.specs.Possibilities.{lists_lengths}
 use Rattle.headline_examples.proofs.Laid.{eight_front, eight_whole}

@@ -1,7 +1,7 @@
 use Rattle.std.proofs.Common.{◌≡◌, ◌++◌, ◌||◌, [], ℕ, List, filter, None, codes, refl, ap, ◌∙◌}
 use Rattle.std.specs.Fmt.{digits}
 use Rattle.phone_values.specs.Ids.{name}
-use Rattle.phone_rules.specs.Strips.{step}
+use Rattle.phone_read.specs.Strips.{step}
 use Rattle.phone_typed.specs.Keys.{is_key, shows}
 use Rattle.phone_typed.specs.Printed.{national_keys}
 use Rattle.phone_typed.specs.Typed.{is_short}

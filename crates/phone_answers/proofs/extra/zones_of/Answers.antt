@@ -1,5 +1,5 @@
 use Rattle.std.proofs.Common.{rules, ◌≡◌, true, false, sym, ◌∙◌}
-use Rattle.phone_maps.specs.Maps.{is_geographical}
+use Rattle.phone_places.specs.Maps.{is_geographical}
 use Rattle.phone_answers.specs.Extras.{is_unknown}
 use Rattle.phone_answers.proofs.extra.zones_of.Goals as goal
 

@@ -1,5 +1,5 @@
 use Rattle.std.proofs.Common.{◌≡◌, Bool, subst, sym}
-use Rattle.phone_rules.proofs.Results.{ok_again}
+use Rattle.phone_read.proofs.Results.{ok_again}
 use Rattle.phone_dialling.specs.Original.{IsBehind, LeavesPrefix, digits_of, region_of}
 use Rattle.phone_dialling.proofs.Originals.{leaves_not, leaves_told}
 use Rattle.phone_dialling.proofs.original.leaves_own.Goals as goal

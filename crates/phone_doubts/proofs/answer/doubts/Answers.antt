@@ -1,5 +1,5 @@
 use Rattle.phone_doubts.specs.Words.{holds}
-use Rattle.phone_rules.proofs.Results.{ok_again}
+use Rattle.phone_read.proofs.Results.{ok_again}
 use Rattle.phone_doubts.proofs.answer.doubts.Goals as goal
 
 pub returns : goal.returns

@@ -2,7 +2,7 @@ use Rattle.std.proofs.Common.{◌≡◌, filter, map, rules, ap₂, ◌∙◌, a
 use Rattle.std.specs.Option.{option_copied}
 use Rattle.phone_values.specs.Numbers.{text_of}
 use Rattle.phone_plans.specs.CodeLookUps.{territories}
-use Rattle.phone_rules.proofs.Results.{ok_again}
+use Rattle.phone_read.proofs.Results.{ok_again}
 use Rattle.phone_further.specs.ShortNumbers.{dearest_of}
 use Rattle.phone_further.specs.ShortRecords.{cost_by, short_records}
 use Rattle.phone_further.proofs.Plain.{plain}

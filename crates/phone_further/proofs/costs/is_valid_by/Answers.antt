@@ -1,6 +1,6 @@
 use Rattle.std.proofs.Common.{◌≡◌, ℕ, List, ap, sym, ◌∙◌}
 use Rattle.std.specs.Option.{option_copied}
-use Rattle.phone_rules.proofs.Results.{ok_again}
+use Rattle.phone_read.proofs.Results.{ok_again}
 use Rattle.phone_further.specs.ShortRecords.{is_possible_by}
 use Rattle.phone_further.proofs.KnownCosts.{invalid_so, valid_so}
 use Rattle.phone_further.proofs.costs.is_valid_by.Goals as goal

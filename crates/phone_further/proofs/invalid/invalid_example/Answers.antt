@@ -1,6 +1,6 @@
 use Rattle.std.proofs.Common.{ap, sym, ◌∙◌}
 use Rattle.std.specs.Option.{option_copied}
-use Rattle.phone_rules.proofs.Results.{ok_again}
+use Rattle.phone_read.proofs.Results.{ok_again}
 use Rattle.phone_further.specs.Invalid
 use Rattle.phone_further.proofs.invalid.invalid_example.Goals as goal
 

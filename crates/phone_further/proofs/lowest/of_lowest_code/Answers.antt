@@ -1,5 +1,5 @@
 use Rattle.std.proofs.Common.{arith}
-use Rattle.phone_rules.proofs.Results.{ok_again}
+use Rattle.phone_read.proofs.Results.{ok_again}
 use Rattle.phone_further.specs.Lowest.{example_of_code, serves}
 use Rattle.phone_further.proofs.Least.{code_link, some_lowest}
 use Rattle.phone_further.proofs.lowest.of_lowest_code.Goals as goal

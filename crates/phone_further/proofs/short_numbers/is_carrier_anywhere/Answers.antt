@@ -2,7 +2,7 @@ use Rattle.std.proofs.Common.{◌≡◌, map, rules, ap₂, ◌∙◌}
 use Rattle.std.specs.Option.{option_copied}
 use Rattle.phone_values.specs.Numbers.{text_of}
 use Rattle.phone_plans.specs.CodeLookUps.{territories}
-use Rattle.phone_rules.proofs.Results.{ok_again}
+use Rattle.phone_read.proofs.Results.{ok_again}
 use Rattle.phone_further.specs.ShortRecords.{chosen_by, is_carrier_by, short_records}
 use Rattle.phone_further.proofs.Among.{carrier_same}
 use Rattle.phone_further.proofs.Plain.{plain}

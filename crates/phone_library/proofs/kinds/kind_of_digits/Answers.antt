@@ -1,7 +1,7 @@
 use Rattle.std.proofs.Common.{◌≡◌, Some, None, true, IfOk, rules, sym, subst, ap, ◌∙◌}
 use Rattle.std.specs.List.{find}
 use Rattle.phone_territory.specs.Kinds.{Kinds, descriptor_for}
-use Rattle.phone_rules.specs.declared.kinds.TheConstants.{TRIED}
+use Rattle.phone_read.specs.declared.kinds.TheConstants.{TRIED}
 use Rattle.phone_library.specs.Kinds.{is_number_of}
 use Rattle.phone_library.proofs.TriedKinds.{is_of_kind, kind_in-found, kind_in-none}
 use Rattle.phone_library.proofs.kinds.kind_of_digits.Goals as goal

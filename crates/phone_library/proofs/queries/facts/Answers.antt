@@ -1,6 +1,6 @@
 use Rattle.std.proofs.Common.{ap}
 use Rattle.phone_library.specs.declared.queries.NumberFacts.{NumberFacts}
-use Rattle.phone_rules.proofs.Results.{ok_again}
+use Rattle.phone_read.proofs.Results.{ok_again}
 use Rattle.phone_library.proofs.queries.facts.Goals as goal
 
 pub returns-clause-region : goal.returns-clause-region

@@ -1,7 +1,7 @@
 use Rattle.std.proofs.Common.{◌≡◌, Bool, Option, ap, ap₂, ◌∙◌}
 use Rattle.phone_values.specs.declared.country.Id.{Id}
 use Rattle.phone_values.specs.declared.kind.«Type».{«Type»}
-use Rattle.phone_rules.specs.Kinds.{is_known}
+use Rattle.phone_read.specs.Kinds.{is_known}
 use Rattle.phone_library.specs.declared.queries.NumberFacts.{NumberFacts}
 use Rattle.phone_library.proofs.queries.facts_in.Goals as goal
 

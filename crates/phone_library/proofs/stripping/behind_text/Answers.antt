@@ -1,6 +1,6 @@
 use Rattle.std.proofs.Common.{drop, length, sym, ◌∙◌}
 use Rattle.phone_parts.proofs.Prefixes.{is_front-drop}
-use Rattle.phone_rules.proofs.DecimalFronts.{border_after}
+use Rattle.phone_read.proofs.DecimalFronts.{border_after}
 use Rattle.phone_library.proofs.stripping.behind_text.Goals as goal
 
 pub trim-requires : goal.trim-requires

@@ -3,7 +3,7 @@ use Rattle.phone_matches.proofs.Alone.{alone, may_stand, scheme_idle, scheme_loo
 use Rattle.phone_matches.proofs.Told.{same_number}
 use Rattle.phone_matches.specs.Numbers.{IsNumberBy}
 use Rattle.phone_matches.specs.Spaced.{scheme, linked}
-use Rattle.phone_matches_search.proofs.Ones.{matches_same}
+use Rattle.phone_matches.proofs.Ones.{matches_same}
 use Rattle.phone_matches.proofs.laws.found_behind_scheme.Goals as goal
 
 pub returns : goal.returns

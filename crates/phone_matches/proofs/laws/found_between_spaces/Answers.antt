@@ -3,7 +3,7 @@ use Rattle.phone_matches.proofs.Alone.{alone, may_stand, space_idle, space_loose
 use Rattle.phone_matches.proofs.Told.{same_number}
 use Rattle.phone_matches.specs.Numbers.{IsNumberBy}
 use Rattle.phone_matches.specs.Spaced.{space, spaced}
-use Rattle.phone_matches_search.proofs.Ones.{matches_same}
+use Rattle.phone_matches.proofs.Ones.{matches_same}
 use Rattle.phone_matches.proofs.laws.found_between_spaces.Goals as goal
 
 pub returns : goal.returns

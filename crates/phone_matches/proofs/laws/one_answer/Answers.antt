@@ -1,6 +1,6 @@
 use Rattle.phone_matches.proofs.Told.{same_number}
 use Rattle.phone_matches.specs.Numbers.{IsNumberBy}
-use Rattle.phone_matches_search.proofs.Ones.{matches_same}
+use Rattle.phone_matches.proofs.Ones.{matches_same}
 use Rattle.phone_matches.proofs.laws.one_answer.Goals as goal
 
 pub returns : goal.returns

@@ -2,7 +2,7 @@ use Rattle.std.proofs.Common.{Ok}
 use Rattle.phone_library.specs.Readings.{ReadsByLibrary}
 use Rattle.phone_matches.proofs.Accepted.{all_accepted, all_weaker}
 use Rattle.phone_matches.specs.Numbers.{IsNumberBy}
-use Rattle.phone_matches_search.specs.Searches.{IsAccepted, Matched}
+use Rattle.phone_matches.specs.Searches.{IsAccepted, Matched}
 use Rattle.phone_values.specs.declared.reading.Reading.{Reading}
 use Rattle.phone_matches.proofs.laws.read_as_found.Goals as goal
 

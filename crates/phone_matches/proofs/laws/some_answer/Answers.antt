@@ -2,7 +2,7 @@ use Rattle.phone_matches.proofs.Decided.{known_piece}
 use Rattle.phone_matches.proofs.There.{matches_there}
 use Rattle.phone_matches.proofs.Told.{nonempty}
 use Rattle.phone_matches.specs.Numbers.{IsNumberBy}
-use Rattle.phone_matches_search.specs.Searches.{behind}
+use Rattle.phone_matches.specs.Searches.{behind}
 use Rattle.phone_matches.proofs.laws.some_answer.Goals as goal
 
 pub returns : goal.returns

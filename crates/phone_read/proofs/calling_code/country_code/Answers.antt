@@ -3,7 +3,7 @@ use Rattle.std.specs.Cow.{cow_str_bytes, IsBorrowedStr}
 use Rattle.std.specs.Fmt.{decimal}
 use Rattle.std.specs.Str.{chars}
 use Rattle.phone_values.specs.declared.country.Source.TheVariants.{Default}
-use Rattle.phone_rules.proofs.BareParts.{plain_national}
+use Rattle.phone_read.proofs.BareParts.{plain_national}
 use Rattle.phone_read.specs.WithoutMemory.{AnswersWithoutMemory}
 use Rattle.phone_read.proofs.FoundCodes.{IsTold, code_of-told}
 use Rattle.phone_read.proofs.LentCodes.{refused_again}

@@ -5,13 +5,13 @@ use Rattle.std.specs.Cow.{cow_str_bytes}
 use Rattle.std.specs.Fmt.{decimal}
 use Rattle.std.specs.Option.{option_copied, option_map_or}
 use Rattle.std.specs.Str.{chars}
-use Rattle.phone_rules.specs.Dialling.{found_in}
+use Rattle.phone_read.specs.Dialling.{found_in}
 use Rattle.phone_read.specs.CallingCodes.{international_prefix_of}
-use Rattle.phone_rules.proofs.BareParts.{bare_plain}
+use Rattle.phone_read.proofs.BareParts.{bare_plain}
 use Rattle.phone_read.proofs.FoundCodes.{code_of-dialled, plus_by_prefix, prefix_of-read, not_memory, code_of-told, is_coded_again}
 use Rattle.phone_read.proofs.LentCodes.{keeps_again}
-use Rattle.phone_rules.proofs.LentParts.{no_prefix}
-use Rattle.phone_rules.proofs.Results.{ok_again, err_again}
+use Rattle.phone_read.proofs.LentParts.{no_prefix}
+use Rattle.phone_read.proofs.Results.{ok_again, err_again}
 use Rattle.phone_read.proofs.calling_code.find_calling_code.Goals as goal
 
 -- no pattern has nothing to find

@@ -8,7 +8,7 @@ use Rattle.phone_values.specs.declared.error.ParseError.{ParseError}
 use Rattle.phone_parts.specs.declared.number.Number.{Number as Parts}
 use Rattle.phone_read.specs.CallingCodes.{IsCoded, KeepsLentCode, code_by, code_by_prefix, with_three}
 use Rattle.phone_read.specs.Hints.{Coded}
-use Rattle.phone_rules.proofs.Results.{ok_again, err_again}
+use Rattle.phone_read.proofs.Results.{ok_again, err_again}
 use Rattle.phone_read.proofs.FoundCodes.{code_by-front, ok_both, err_both, ok_made}
 use Rattle.phone_read.specs.WithoutMemory.{AnswersAtOnce}
 use Rattle.phone_read.proofs.calling_code.with_code.Goals as goal

@@ -12,7 +12,7 @@ use Rattle.phone_read.specs.Hints.{Coded}
 use Rattle.phone_read.specs.Numbering.{reading_of}
 use Rattle.phone_read.specs.Readings
 use Rattle.phone_read.specs.Readings.{Reads, stripping_territory}
-use Rattle.phone_rules.specs.Strips.{stripped}
+use Rattle.phone_read.specs.Strips.{stripped}
 use Rattle.phone_read.proofs.reading.read.Goals as goal
 
 pub returns-in_default : goal.returns-in_default

@@ -1,7 +1,7 @@
 use Rattle.std.proofs.Common.{◌∙◌}
 use Rattle.std.specs.Str.{chars}
-use Rattle.phone_rules.proofs.DigitTexts.{encode_utf8_all-norm}
-use Rattle.phone_rules.proofs.Results.{ok_again}
+use Rattle.phone_read.proofs.DigitTexts.{encode_utf8_all-norm}
+use Rattle.phone_read.proofs.Results.{ok_again}
 use Rattle.phone_util.proofs.sides.digits.Goals as goal
 
 pub returns : goal.returns

@@ -7,7 +7,7 @@ use Rattle.phone_csv.specs.Feeds.{counted}
 use Rattle.phone_commands.specs.FoundLines.{AreTold, HaveTerritories, found_of, name_told}
 use Rattle.phone_commands.specs.FoundLines.AreTold.{none, next}
 use Rattle.phone_matches.specs.Orders as orders
-use Rattle.phone_matches_search.specs.Told.{AllMatchThere, told_matches}
+use Rattle.phone_matches.specs.Told.{AllMatchThere, told_matches}
 use Rattle.phone_commands.proofs.MatchLemmas.{ordered-earlier}
 use Rattle.phone_commands.proofs.finder.Finder.push_matches.Goals as goal
 

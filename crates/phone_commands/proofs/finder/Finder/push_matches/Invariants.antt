@@ -3,8 +3,8 @@ use Rattle.std.specs.Str.{IsCharBoundary}
 use Rattle.phone_csv.specs.Feeds.{counted}
 use Rattle.phone_commands.specs.FoundLines.{AreTold, HaveTerritories, found_of, name_told}
 use Rattle.phone_matches.specs.Orders as orders
-use Rattle.phone_matches_search.specs.Told.{AllMatchThere, told_matches}
-use Rattle.phone_matches_search.specs.declared.places.Match.{Match}
+use Rattle.phone_matches.specs.Told.{AllMatchThere, told_matches}
+use Rattle.phone_matches.specs.declared.places.Match.{Match}
 use Rattle.phone_values.specs.declared.reading.Reading.{Reading}
 use Rattle.phone_commands.proofs.finder.Finder.push_matches.Given as goal
 

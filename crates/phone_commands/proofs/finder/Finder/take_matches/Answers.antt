@@ -2,7 +2,7 @@ use Rattle.std.proofs.Common.{chars}
 use Rattle.phone_commands.specs.FoundLines.{all_tries}
 use Rattle.phone_matches.proofs.Orders.{all_ordered}
 use Rattle.phone_matches.specs.Numbers.{IsNumberBy}
-use Rattle.phone_matches_search.specs.Told.{told_matches}
+use Rattle.phone_matches.specs.Told.{told_matches}
 use Rattle.phone_commands.proofs.MatchLemmas.{match-territories}
 use Rattle.phone_commands.proofs.finder.Finder.take_matches.Goals as goal
 

@@ -1,3 +1,0 @@
-pub mod IdLemmas
-pub mod Loading
-pub mod Rising

@@ -1,3 +1,0 @@
-pub mod Carets
-pub mod Fields
-pub mod Steps

@@ -1,4 +1,0 @@
-pub mod Dialled
-pub mod Kept
-pub mod Keys
-pub mod Lettered

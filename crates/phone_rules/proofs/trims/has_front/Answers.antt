@@ -1,6 +1,0 @@
-use Rattle.std.proofs.Common.{rules}
-use Rattle.phone_parts.proofs.Prefixes.{is_front-decided}
-use Rattle.phone_rules.proofs.trims.has_front.Goals as goal
-
-pub returns : goal.returns
-returns c = is_front-decided c.args.front.now c.args.text.now c.starts_with.result (search rules)
