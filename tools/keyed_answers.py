@@ -1,5 +1,5 @@
 #!/usr/bin/env python3
-"""What libphonenumber's formatter shows of a number while it is typed, by a model that shares no code with phone_keyed.
+"""What libphonenumber's formatter shows of a number while it is typed, by a model that shares no code with phone_typed.
 
 usage: tools/keyed_answers.py DATABASE.json ROWS.tsv
 

@@ -28,7 +28,7 @@ pub struct PlainFacts {
 }
 
 /// A cost by its number.
-fn cost_number(cost: Cost) -> u32
+pub fn cost_number(cost: Cost) -> u32
     ensures { result ≡ cost_number cost }
 {
     match cost {
@@ -40,7 +40,7 @@ fn cost_number(cost: Cost) -> u32
 }
 
 /// 1 where it is so, else 0.
-fn flag(is_so: bool) -> u8
+pub fn flag(is_so: bool) -> u8
     ensures { result ≡ flag is_so }
 {
     if is_so { 1 } else { 0 }

@@ -14,15 +14,8 @@ use phone_c_base::buffer::give;
 use phone_c_base::hint::hint_of;
 use phone_c_base::number::{Number, to_phone_number};
 use phone_c_base::status::{BAD_NUMBER, MEMORY, NO_MODE, NO_REGION, NOT_UTF8, OK, TOO_SMALL};
-use phone_dialling::{dialled_text, mobile_text, original_text, text_in};
+use phone_dialling::{dialled_text, mobile_text, original_text, text_in, unless_empty};
 use phone_plans::Plans;
-
-/// A text that isn't empty.
-fn unless_empty(text: &str) -> Option<&str>
-    ensures { option_copied result ≡ if_some text.entry.now }
-{
-    if text.is_empty() { None } else { Some(text) }
-}
 
 /// The text that a number was read from, of its bytes: no such text where there is no byte; none
 /// where they aren't UTF-8.

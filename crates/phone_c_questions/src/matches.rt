@@ -13,7 +13,7 @@ use phonenumber::PhoneNumber;
 use std::alloc::Global;
 
 /// How like two numbers are, by its number.
-fn match_number(found: NumberMatch) -> u32
+pub(crate) fn match_number(found: NumberMatch) -> u32
     ensures { result ≡ match_number found }
 {
     match found {
@@ -67,7 +67,7 @@ pub fn numbers(
 }
 
 /// Of two statuses that one which says that there is no number.
-fn either_bad(status: u32, other: u32) -> u32
+pub(crate) fn either_bad(status: u32, other: u32) -> u32
     ensures bad { (result ≡ BAD_NUMBER) ↔ ((status ≡ BAD_NUMBER) ⊎ (other ≡ BAD_NUMBER)) }
     ensures one { (result ≡ status) ⊎ (result ≡ other) }
 {

@@ -6,9 +6,9 @@ ghost use Rattle.phone_c_questions.specs.Numbers.{AreNumberFacts, IsGeographical
 ghost use Rattle.phone_c_questions.specs.Numbers.{IsPossibilityAs, IsValidityFor, number_facts};
 ghost use Rattle.phone_c_questions.specs.Numbers.{validation_number};
 
-use crate::plain::flag;
 use phone_c_base::asked::kind_of;
 use phone_c_base::number::{Number, bare};
+use phone_c_base::short::flag;
 use phone_c_base::status::{BAD_NUMBER, MEMORY, NO_KIND, NOT_UTF8, OK};
 use phone_plans::Plans;
 use phone_questions::{details_of, is_geographical_kind, is_valid_for, possibility_as};
@@ -87,7 +87,7 @@ pub fn validity_for(database: &Plans, id: &[u8], number: &Number, told: &mut u8)
 }
 
 /// What a length says, by the number by which the calls for possible numbers tell it.
-fn validation_number(verdict: Validation) -> u32
+pub(crate) fn validation_number(verdict: Validation) -> u32
     ensures { result ≡ validation_number verdict }
 {
     match verdict {

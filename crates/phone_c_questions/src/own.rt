@@ -8,14 +8,14 @@ ghost use Rattle.phone_c_questions.specs.Numbers.{validation_number};
 ghost use Rattle.phone_c_questions.specs.Own.{IsKnownCost, IsOwnMobileText, IsPossibilityOf};
 ghost use Rattle.phone_c_questions.specs.Own.{IsReach};
 
+use crate::numbers::validation_number;
 use phone_c_base::asked::kind_of;
 use phone_c_base::buffer::give;
 use phone_c_base::number::{Number, bare, to_phone_number};
+use phone_c_base::short::{cost_number, flag};
 use phone_c_base::status::{BAD_NUMBER, MEMORY, NO_KIND, NOT_UTF8, OK, TOO_SMALL};
 use phone_further::{known_cost, mobile_text_in, possibility_of, reaches_from_abroad};
 use phone_plans::Plans;
-use phone_short::Cost;
-use phone_values::Validation;
 
 /// What a mobile phone dials to reach a number where the region's id is this, in a buffer: each
 /// region of the number's calling code is at home for it.
@@ -55,13 +55,6 @@ pub fn mobile(
     }
 }
 
-/// 1 where it is so, else 0.
-fn flag(is_so: bool) -> u8
-    ensures { result ≡ flag is_so }
-{
-    if is_so { 1 } else { 0 }
-}
-
 /// Whether a number can be dialled from abroad, a valid one alone: 1, else 0. Its texts are not
 /// looked at.
 pub fn reach(database: &Plans, number: &Number, told: &mut u8) -> u32
@@ -82,18 +75,6 @@ pub fn reach(database: &Plans, number: &Number, told: &mut u8) -> u32
     }
 }
 
-/// A cost by its number.
-fn cost_number(cost: Cost) -> u32
-    ensures { result ≡ cost_number cost }
-{
-    match cost {
-        Cost::TollFree => 0,
-        Cost::StandardRate => 1,
-        Cost::PremiumRate => 2,
-        Cost::Unknown => 3,
-    }
-}
-
 /// What a short number costs whose region isn't told, by its number: in the regions that know it.
 /// The number's texts are not looked at.
 pub fn cost(database: &Plans, short: &Plans, number: &Number, told: &mut u32) -> u32
@@ -111,20 +92,6 @@ pub fn cost(database: &Plans, short: &Plans, number: &Number, told: &mut u32) ->
             OK
         }
         Err(_) => MEMORY,
-    }
-}
-
-/// What a length says, by the number by which the calls for possible numbers tell it.
-fn validation_number(verdict: Validation) -> u32
-    ensures { result ≡ validation_number verdict }
-{
-    match verdict {
-        Validation::IsPossible => 0,
-        Validation::IsPossibleLocalOnly => 1,
-        Validation::TooShort => 2,
-        Validation::TooLong => 3,
-        Validation::InvalidLength => 4,
-        Validation::InvalidCountryCode => 5,
     }
 }
 

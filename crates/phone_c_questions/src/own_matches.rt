@@ -5,26 +5,13 @@ ghost use Rattle.phone_further.specs.Matches.{match_numbers};
 ghost use Rattle.phone_c_questions.specs.OwnMatches.{AreOwnMatch, AreOwnMatchTexts, IsOwnMatchText};
 ghost use Rattle.phone_c_questions.specs.Matches.{match_number};
 
+use crate::matches::{either_bad, match_number};
 use phone_c_base::number::{Number, to_phone_number};
 use phone_c_base::status::{BAD_NUMBER, MEMORY, NOT_UTF8, OK};
 use phone_further::match_numbers;
 use phone_plans::Plans;
-use phone_questions::NumberMatch;
 use phonenumber::PhoneNumber;
 use std::alloc::Global;
-
-/// How like two numbers are, by its number.
-fn match_number(found: NumberMatch) -> u32
-    ensures { result ≡ match_number found }
-{
-    match found {
-        NumberMatch::NotANumber => 0,
-        NumberMatch::NoMatch => 1,
-        NumberMatch::ShortNsnMatch => 2,
-        NumberMatch::NsnMatch => 3,
-        NumberMatch::ExactMatch => 4,
-    }
-}
 
 /// Tells how like two numbers are, by its number.
 fn tell(alloc: Global, first: &PhoneNumber, second: &PhoneNumber, told: &mut u32) -> u32
@@ -65,14 +52,6 @@ pub fn numbers(
         (Err(status), Ok(_)) => status,
         (Err(status), Err(other)) => either_bad(status, other),
     }
-}
-
-/// Of two statuses that one which says that there is no number.
-fn either_bad(status: u32, other: u32) -> u32
-    ensures bad { (result ≡ BAD_NUMBER) ↔ ((status ≡ BAD_NUMBER) ⊎ (other ≡ BAD_NUMBER)) }
-    ensures one { (result ≡ status) ⊎ (result ≡ other) }
-{
-    if status == BAD_NUMBER { status } else { other }
 }
 
 /// How like a number that is given as plain numbers and a text are.

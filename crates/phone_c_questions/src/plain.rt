@@ -1,21 +1,13 @@
-//! Answers as plain numbers: flags, and kinds by their numbers in a buffer.
+//! Kinds by their numbers in a buffer.
 ghost use Rattle.std.specs.Prelude.{◌≡◌, IfOk, map};
 ghost use Rattle.phone_c_base.specs.Answers.{kind_number};
 ghost use Rattle.phone_c_base.specs.Buffers.{IsTooLong, IsWritten};
-ghost use Rattle.phone_c_base.specs.ShortNumbers.{flag};
 
 use phone_c_base::asked::kind_number;
 use phone_c_base::buffer::give;
 use phone_c_base::status::{MEMORY, OK, TOO_SMALL};
 use phone_values::Type;
 use std::alloc::{AllocError, Global};
-
-/// 1 where it is so, else 0.
-pub(crate) fn flag(is_so: bool) -> u8
-    ensures { result ≡ flag is_so }
-{
-    if is_so { 1 } else { 0 }
-}
 
 /// The numbers of kinds. Refused only for memory.
 fn kind_numbers(alloc: Global, kinds: &[Type]) -> Result<Vec<u32>, AllocError>

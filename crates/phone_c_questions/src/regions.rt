@@ -5,10 +5,11 @@ ghost use Rattle.phone_c_base.specs.Buffers.{IsTooLong, IsTooLongA, IsWritten, I
 ghost use Rattle.phone_c_questions.specs.Regions.{AreKindsOf, AreRegionFacts, HasNoTerritory};
 ghost use Rattle.phone_c_questions.specs.Regions.{IsPrefixOf, prefix_of, region_facts};
 
-use crate::plain::{flag, give_kinds};
+use crate::plain::give_kinds;
 use phone_c_base::buffer::give;
 use phone_c_base::hint::id_of;
 use phone_c_base::number::or_empty;
+use phone_c_base::short::flag;
 use phone_c_base::status::{MEMORY, NO_REGION, NO_TERRITORY, OK, TOO_SMALL};
 use phone_plans::Plans;
 use phone_questions::{

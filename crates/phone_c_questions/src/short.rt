@@ -12,6 +12,7 @@ ghost use Rattle.phone_c_questions.specs.ShortNumbers.{example_of, facts_anywher
 use phone_c_base::buffer::give;
 use phone_c_base::hint::id_of;
 use phone_c_base::number::{Number, bare};
+use phone_c_base::short::{cost_number, flag};
 use phone_c_base::status::{BAD_NUMBER, MEMORY, NO_EXAMPLE, NO_REGION, NO_WORD, OK, TOO_SMALL};
 use phone_further::{short_example, short_example_of_cost};
 use phone_plans::Plans;
@@ -33,25 +34,6 @@ pub struct FactsAnywhere {
     pub is_valid: u8,
     /// Whether only some carriers connect it.
     pub is_carrier_specific: u8,
-}
-
-/// A cost by its number.
-fn cost_number(cost: Cost) -> u32
-    ensures { result ≡ cost_number cost }
-{
-    match cost {
-        Cost::TollFree => 0,
-        Cost::StandardRate => 1,
-        Cost::PremiumRate => 2,
-        Cost::Unknown => 3,
-    }
-}
-
-/// 1 where it is so, else 0.
-fn flag(is_so: bool) -> u8
-    ensures { result ≡ flag is_so }
-{
-    if is_so { 1 } else { 0 }
 }
 
 /// What is known of a number. Refused only for memory.

@@ -1,5 +1,5 @@
 pub mod Answered
+pub mod LaidTexts
 pub mod Originals
 pub mod Ruled
 pub mod Steps
-pub mod Templates

@@ -1,9 +1,9 @@
 -- How a number that was read is printed in the way in which it was written: after
 -- `formatInOriginalFormat` of libphonenumber.
-use Rattle.std.specs.Prelude.{◌≡◌, ℕ, ◌==◌, ◌&&◌, not, Bool, true, false, if◌then◌else◌}
-use Rattle.std.specs.Prelude.{List, [], ◌∷◌, ◌++◌, chars, codes, encode_utf8_all, unwrap_or}
+use Rattle.std.specs.Prelude.{◌≡◌, ℕ, ◌==◌, not, Bool, true, false, if◌then◌else◌}
+use Rattle.std.specs.Prelude.{List, [], ◌∷◌, ◌++◌, chars, codes, unwrap_or}
 use Rattle.std.specs.Prelude.{Option, None, Some, Result, Ok, Err}
-use Rattle.std.specs.List.{find, list_any}
+use Rattle.std.specs.List.{list_any}
 use Rattle.std.specs.Option.{option_and_then, option_map_or}
 use Rattle.std.specs.Str.{bytes_eq}
 use Rattle.phone_chars.specs.Characters.{is_nd}
@@ -16,30 +16,25 @@ use Rattle.phone_values.specs.declared.country.Source.TheVariants.{Default, Idd,
 use Rattle.phone_values.specs.declared.error.ParseError.{ParseError}
 use Rattle.phone_values.specs.declared.mode.Mode.TheVariants.{International, National}
 use Rattle.phone_values.specs.declared.reading.Reading.{Reading}
+use Rattle.phone_values.specs.declared.rules.Rules.TheVariants.{Library}
 use Rattle.phone_library.specs.Facts.{is_valid_number}
 use Rattle.phone_library.specs.Readings.{ReadsByLibrary}
 use Rattle.phone_pattern.specs.Rules.{ruled_template}
 use Rattle.phone_plans.specs.CodeLookUps.{first_of, territories}
+use Rattle.phone_print.specs.Layouts.{layout_by}
 use Rattle.phone_print.specs.Texts.{extension_part}
 use Rattle.phone_records.specs.declared.loader.Format.{Format}
 use Rattle.phone_records.specs.declared.loader.Metadata.{Metadata}
-use Rattle.phone_territory.specs.First.{is_whole_match}
-use Rattle.phone_territory.specs.Layouts.{laid_by, layout_pattern, layout_template}
-use Rattle.phone_territory.specs.Records.{is_led}
+use Rattle.phone_territory.specs.Layouts.{laid_by, layout_template}
 use Rattle.phone_questions.specs.Letters.{diallable_only, digits_only}
 use Rattle.phone_questions.specs.Matches.{extension_told}
 use Rattle.phone_questions.specs.Regions.{national_prefix_digits}
 use Rattle.phone_dialling.specs.Abroad.{dialled_text, if_some}
 use Rattle.phone_dialling.specs.Texts.{signless, text_in}
 
--- a layout is that of digits: they begin as it says, if it says so, and its pattern matches them
--- whole
-abbrev pub is_layout_of : List ℕ → Format → Bool
-is_layout_of digits f = is_led digits f && is_whole_match (layout_pattern f) digits
-
--- a territory's first layout of national digits
+-- a territory's layout of national digits
 abbrev pub layout_in : Metadata → List ℕ → Option Format
-layout_in m digits = find (is_layout_of digits) m.formats
+layout_in m digits = layout_by Library m National None digits
 
 -- a character that names no group of a template
 abbrev pub is_no_group : ℕ → Bool
@@ -113,9 +108,9 @@ pub data IsToldText (db : List Metadata) (from : Option Id) (raw : List ℕ) (n 
   hint : (leaves : Bool) → LeavesPrefix db m f raw leaves →
       IsToldText db from raw n m f Default (hinted_text db m f raw n leaves)
 
--- what of a text a telephone can dial
+-- the characters of a text that a telephone can dial
 abbrev pub dialled_of : List ℕ → List ℕ
-dialled_of t = encode_utf8_all (diallable_only (chars t))
+dialled_of t = diallable_only (chars t)
 
 -- a text, unless what is dialled of it isn't what was dialled of the text that was read: then that
 abbrev pub unless_changed : List ℕ → List ℕ → List ℕ

@@ -16,8 +16,9 @@ ghost use Rattle.std.specs.List.{list_all};
 
 use crate::texts::{plain, plain_text, signless, text_in};
 use phone_chars::chars::is_digit;
-use phone_chars::cuts::{CharSet, after_run, split_first};
+use phone_chars::cuts::{after_run, split_first};
 use phone_plans::{Plans, Territory};
+use phone_questions::Digits;
 use phone_values::country::Id;
 use phone_values::{Mode, Rules};
 use phonenumber::PhoneNumber;
@@ -178,11 +179,11 @@ pub fn preferred_prefix(from: &Territory) -> Option<&str>
     ensures { option_copied result ≡ preferred_prefix from.entry.now }
 {
     let preferred = from.preferred_international_prefix()?;
-    some(preferred)
+    unless_empty(preferred)
 }
 
 /// A text that isn't empty.
-fn some(text: &str) -> Option<&str>
+pub fn unless_empty(text: &str) -> Option<&str>
     ensures { option_copied result ≡ if_some text.entry.now }
 {
     if text.is_empty() { None } else { Some(text) }
@@ -221,20 +222,6 @@ pub(crate) fn begins_with_digit(text: &str) -> bool
     match split_first(text) {
         Some((c, _)) => is_digit(c),
         None => false,
-    }
-}
-
-/// The digits from `0` to `9`.
-#[derive(Drop)]
-struct Digits;
-
-impl CharSet for Digits {
-    ghost use Rattle.phone_chars.specs.Characters.{is_digit};
-
-    ghost members = { λ _. is_digit };
-
-    fn has(&self, c: char) -> bool {
-        is_digit(c)
     }
 }
 

@@ -2,13 +2,12 @@
 ghost use Rattle.std.specs.Prelude.{◌≡◌, chars};
 ghost use Rattle.std.specs.Option.{option_copied};
 ghost use Rattle.std.specs.Str.{bytes_eq};
-ghost use Rattle.phone_library_text.specs.Letters.{key_of};
 ghost use Rattle.phone_parts.specs.Texts.{begins};
 ghost use Rattle.phone_dialling.specs.Keys.{behind, behind_key, dialled_end, has_key};
 ghost use Rattle.phone_dialling.specs.Keys.{is_dialled_by, keys_of};
 
-use phone_chars::chars::keypad;
 use phone_chars::cuts::split_first;
+use phone_questions::key_of;
 
 /// The end of a text that is dialled by these digits, and begins with a key. It takes no memory;
 /// its time is linear in the text.
@@ -79,16 +78,5 @@ fn behind(key: char, digits: &[u8]) -> Option<&[u8]>
         Some(rest)
     } else {
         None
-    }
-}
-
-/// The key that a character is dialled on, as its upper case is; none for what stands on no key.
-fn key_of(c: char) -> Option<char>
-    ensures { result ≡ key_of c }
-{
-    match c {
-        '\u{131}' => Some('4'),
-        '\u{17F}' => Some('7'),
-        _ => keypad(c),
     }
 }

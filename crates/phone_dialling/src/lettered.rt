@@ -14,13 +14,15 @@ ghost use Rattle.phone_questions.specs.Matches.{extension_told};
 ghost use Rattle.phone_questions.specs.Regions.{territory_of};
 ghost use Rattle.phone_values.specs.Numbers.{text_of};
 
-use crate::abroad::{behind_prefix, dialled_text, from_territory, preferred_prefix, single_prefix};
+use crate::abroad::{
+    behind_prefix, dialled_text, from_territory, preferred_prefix, single_prefix, unless_empty,
+};
 use crate::kept::{from_digits, kept_of};
-use crate::original::{first_layout, with_extension};
-use phone_chars::chars::is_digit;
-use phone_chars::cuts::{CharSet, split_run};
+use crate::original::{layout_of, with_extension};
+use phone_chars::cuts::split_run;
 use phone_library_text::split_extension;
 use phone_plans::{Plans, Territory};
+use phone_questions::{Between, Digits};
 use phone_values::country::Id;
 use phonenumber::PhoneNumber;
 use std::alloc::{AllocError, Global};
@@ -66,16 +68,9 @@ fn given(raw: Option<&str>) -> Option<&str>
     ensures { option_copied result ≡ option_and_then if_some (option_copied raw.entry) }
 {
     match raw {
-        Some(raw) => some(raw),
+        Some(raw) => unless_empty(raw),
         None => None,
     }
-}
-
-/// A text that isn't empty.
-fn some(text: &str) -> Option<&str>
-    ensures { option_copied result ≡ if_some text.entry.now }
-{
-    if text.is_empty() { None } else { Some(text) }
 }
 
 /// The same of a text that is there. Refused only for memory.
@@ -194,37 +189,9 @@ pub(crate) fn ruled_in(m: &Territory, digits: &str, text: &str) -> Result<String
 fn rule_in<'d>(m: &'d Territory, digits: &str) -> Result<Option<&'d str>, AllocError>
     ensures { IfOk result (λ r. option_copied r ≡ rule_in m.entry.now digits.now) }
 {
-    match first_layout(m.formats(), digits)? {
+    match layout_of(m, digits)? {
         Some(layout) => Ok(layout.national_prefix()),
         None => Ok(None),
-    }
-}
-
-/// The characters between groups.
-#[derive(Drop)]
-struct Between;
-
-impl CharSet for Between {
-    ghost use Rattle.phone_questions.specs.Groups.{is_between};
-
-    ghost members = { λ _. is_between };
-
-    fn has(&self, c: char) -> bool {
-        !is_digit(c)
-    }
-}
-
-/// The digits from `0` to `9`.
-#[derive(Drop)]
-struct Digits;
-
-impl CharSet for Digits {
-    ghost use Rattle.phone_chars.specs.Characters.{is_digit};
-
-    ghost members = { λ _. is_digit };
-
-    fn has(&self, c: char) -> bool {
-        is_digit(c)
     }
 }
 

@@ -12,9 +12,11 @@ mod mobile;
 mod original;
 mod texts;
 
-pub use abroad::{behind_prefix, dialled_text, from_territory, preferred_prefix, single_prefix};
+pub use abroad::{
+    behind_prefix, dialled_text, from_territory, preferred_prefix, single_prefix, unless_empty,
+};
 pub use dialled::dialled_with_letters;
 pub use lettered::text_with_letters;
 pub use mobile::{MobileWay, mobile_text};
-pub use original::{first_layout, original_text, with_extension};
+pub use original::{original_text, with_extension};
 pub use texts::text_in;

@@ -1,13 +1,14 @@
 //! How a number that was read is printed in the way in which it was written.
-ghost use Rattle.std.specs.Prelude.{◌≡◌, ◌++◌, ℕ, Bool, IfOk, IfSome, IsNone, List, None, OnOk};
-ghost use Rattle.std.specs.Prelude.{Result, Some, chars, false, option_map, string_bytes};
-ghost use Rattle.std.specs.List.{find, list_any};
+ghost use Rattle.std.specs.Prelude.{◌≡◌, ◌<◌, ◌++◌, ◌∷◌, ℕ, Bool, IfOk, IfSome, IsNone, List};
+ghost use Rattle.std.specs.Prelude.{[], MatchOption, None, OnOk, Result, Some, chars, false};
+ghost use Rattle.std.specs.Prelude.{length, option_map, string_bytes};
+ghost use Rattle.std.specs.List.{list_any};
 ghost use Rattle.phone_chars.specs.Characters.{is_nd};
 ghost use Rattle.std.specs.Option.{option_and_then, option_copied};
 ghost use Rattle.std.specs.Str.{bytes_eq};
 ghost use Rattle.phone_dialling.specs.Original.{IsBehind, IsOriginal, IsToldText, LeavesPrefix};
 ghost use Rattle.phone_dialling.specs.Original.{bare_text, dialled_of, digits_of};
-ghost use Rattle.phone_dialling.specs.Original.{has_digit_before, hinted_text, is_layout_of};
+ghost use Rattle.phone_dialling.specs.Original.{has_digit_before, hinted_text};
 ghost use Rattle.phone_dialling.specs.Original.{is_no_group, is_valid_read, layout_in, own_prefix};
 ghost use Rattle.phone_dialling.specs.Original.{region_of, unless_changed};
 ghost use Rattle.phone_dialling.specs.Original.{writes_digits};
@@ -25,16 +26,18 @@ ghost use Rattle.phone_values.specs.declared.error.ParseError.{ParseError as Ref
 ghost use Rattle.phone_values.specs.declared.reading.Reading.{Reading};
 
 use crate::abroad::dialled_text;
-use crate::texts::{signless, text_in};
-use phone_base::results::zip;
+use crate::texts::{signless, text_in, text_laid};
+use itoa::Buffer;
 use phone_chars::chars::is_nd;
-use phone_chars::cuts::{CharSet, split_run};
+use phone_chars::cuts::{CharSet, split_first, split_run};
 use phone_library::{is_valid, parse};
 use phone_plans::{Format, Plans, Territory};
-use phone_questions::{diallable_only, digits_only, national_prefix_digits};
+use phone_print::printing::{first_layout, layouts_for};
+use phone_questions::{digits_only, is_diallable, national_prefix_digits};
+use phone_territory::Subject;
 use phone_values::consts::DEFAULT_EXTN_PREFIX;
 use phone_values::country::{Id, Source};
-use phone_values::{Mode, ParseError};
+use phone_values::{Mode, ParseError, Rules};
 use phonenumber::PhoneNumber;
 use std::alloc::{AllocError, Global};
 
@@ -102,31 +105,24 @@ fn layout_in<'d>(m: &'d Territory, number: &PhoneNumber) -> Result<Option<&'d Fo
     ensures { IfOk result (λ f. option_copied f ≡
         layout_in m.entry.now (text_of number.now.national)) }
 {
-    let digits = number.national().to_string(m.allocator())?;
-    first_layout(m.formats(), digits.as_str())
+    let national = number.national();
+    if national.zeros() == 0 {
+        let mut buffer = Buffer::new();
+        return layout_of(m, buffer.format(national.value()));
+    }
+    let digits = national.to_string(m.allocator())?;
+    layout_of(m, digits.as_str())
 }
 
-/// The first of these layouts that is that of digits. Refused only for memory.
-pub fn first_layout<'d>(
-    layouts: &'d [Format],
+/// A territory's layout of national digits. Refused only for memory.
+pub(crate) fn layout_of<'d>(
+    m: &'d Territory,
     digits: &str,
 ) -> Result<Option<&'d Format>, AllocError>
-    ensures { IfOk result (λ f. option_copied f ≡
-        find (is_layout_of digits.now) layouts.entry.now) }
+    ensures { IfOk result (λ f. option_copied f ≡ layout_in m.entry.now digits.now) }
 {
-    for layout in layouts {
-        if is_layout_of(layout, digits)? {
-            return Ok(Some(layout));
-        }
-    }
-    Ok(None)
-}
-
-/// Whether a layout is that of digits. Refused only for memory.
-fn is_layout_of(layout: &Format, digits: &str) -> Result<bool, AllocError>
-    ensures { IfOk result (λ b. b ≡ is_layout_of digits.now layout.now) }
-{
-    Ok(layout.is_led(digits)? && layout.whole_pattern().is_whole_match(digits)?)
+    let digits = Subject::of(digits);
+    first_layout(Rules::Library, layouts_for(m, Mode::National), &digits)
 }
 
 /// The text of a number by what told its code. Refused only for memory.
@@ -138,6 +134,8 @@ fn told_text(
     m: &Territory,
     layout: &Format,
 ) -> Result<String, AllocError>
+    requires territory { first_of (territories number.now.code.value database.now) ≡ Some m.now }
+    requires layout { layout_in m.now (text_of number.now.national) ≡ Some layout.now }
     ensures { IfOk result (λ t. IsToldText database.now from raw.now number.now m.now layout.now
         number.now.code.source (string_bytes t)) }
 {
@@ -167,6 +165,8 @@ fn default_text(
     m: &Territory,
     layout: &Format,
 ) -> Result<String, AllocError>
+    requires territory { first_of (territories number.now.code.value database.now) ≡ Some m.now }
+    requires layout { layout_in m.now (text_of number.now.national) ≡ Some layout.now }
     ensures { IfOk result (λ t. (leaves : Bool) ×
         LeavesPrefix database.now m.now layout.now raw.now leaves ×
         (string_bytes t ≡ hinted_text database.now m.now layout.now raw.now number.now leaves)) }
@@ -184,13 +184,15 @@ fn hinted_text(
     number: &PhoneNumber,
     leaves: bool,
 ) -> Result<String, AllocError>
+    requires territory { first_of (territories number.now.code.value database.now) ≡ Some m.now }
+    requires layout { layout_in m.now (text_of number.now.national) ≡ Some layout.now }
     ensures { IfOk result (λ t. string_bytes t ≡
         hinted_text database.now m.now layout.now raw.now number.now leaves) }
 {
     if leaves {
         bare_text(m, layout, number)
     } else {
-        text_in(database, Mode::National, Some(raw), number)
+        text_laid(database, m, layout, raw, number)
     }
 }
 
@@ -396,17 +398,44 @@ impl CharSet for NoGroup {
 fn unless_changed(alloc: Global, raw: &str, text: String) -> Result<String, AllocError>
     ensures { IfOk result (λ t. string_bytes t ≡ unless_changed raw.now (string_bytes text)) }
 {
-    if are_dialled_alike(alloc, text.as_str(), raw)? {
+    if are_dialled_alike(text.as_str(), raw) {
         Ok(text)
     } else {
         String::from_str(alloc, raw)
     }
 }
 
-/// Whether the same is dialled of two texts. Refused only for memory.
-fn are_dialled_alike(alloc: Global, a: &str, b: &str) -> Result<bool, AllocError>
-    ensures { IfOk result (λ same. same ≡ bytes_eq (dialled_of a.now) (dialled_of b.now)) }
+/// Whether the same is dialled of two texts. It takes no memory.
+fn are_dialled_alike(a: &str, b: &str) -> bool
+    ensures { result ≡ bytes_eq (dialled_of a.now) (dialled_of b.now) }
 {
-    let (a, b) = zip(diallable_only(alloc, a), diallable_only(alloc, b))?;
-    Ok(a.as_str() == b.as_str())
+    let mut left = a;
+    let mut right = b;
+    while let Some((c, rest)) = first_dialled(left) {
+        let Some((d, others)) = first_dialled(right) else {
+            return false;
+        };
+        if c != d {
+            return false;
+        }
+        left = rest;
+        right = others;
+    }
+    first_dialled(right).is_none()
+}
+
+/// The first character of a text that a telephone can dial, and what stands behind it.
+fn first_dialled(text: &str) -> Option<(char, &str)>
+    ensures first { MatchOption result (dialled_of text.now ≡ [])
+        (λ p. dialled_of text.now ≡ p.0 ∷ dialled_of p.1.now) }
+    ensures shorter { IfSome result (λ p. length p.1.now < length text.now) }
+{
+    let mut rest = text;
+    while let Some((c, after)) = split_first(rest) {
+        if is_diallable(c) {
+            return Some((c, after));
+        }
+        rest = after;
+    }
+    None
 }

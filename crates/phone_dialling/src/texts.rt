@@ -4,12 +4,17 @@ ghost use Rattle.std.specs.Prelude.{Some, codes, is_some, string_bytes};
 ghost use Rattle.std.specs.Option.{option_copied};
 ghost use Rattle.phone_dialling.specs.Texts.{coded, kept, kept_text, plain, plain_text, signless};
 ghost use Rattle.phone_dialling.specs.Texts.{text_in, unlisted_text};
+ghost use Rattle.phone_dialling.specs.Original.{layout_in};
+ghost use Rattle.phone_plans.specs.CodeLookUps.{first_of, territories};
 ghost use Rattle.phone_questions.specs.Matches.{extension_told};
+ghost use Rattle.phone_values.specs.Numbers.{text_of};
+ghost use Rattle.phone_values.specs.declared.mode.Mode.TheVariants.{National};
 
 use phone_library::{printed, without_carrier};
-use phone_plans::Plans;
-use phone_values::Mode;
+use phone_plans::{Format, Plans, Territory};
+use phone_print::printing;
 use phone_values::country::Source;
+use phone_values::{Mode, Rules};
 use phonenumber::{FormatError, PhoneNumber};
 use std::alloc::{AllocError, Global};
 
@@ -31,6 +36,65 @@ pub fn text_in(
         Some(raw) => kept_text(database.allocator(), mode, raw, number),
         None => bare_text(database, mode, number),
     }
+}
+
+/// The national text of a number, as `text_in` gives it, in the first territory of its code where
+/// this is its layout there. Refused only for memory.
+pub(crate) fn text_laid(
+    database: &Plans,
+    m: &Territory,
+    layout: &Format,
+    raw: &str,
+    number: &PhoneNumber,
+) -> Result<String, AllocError>
+    requires territory { first_of (territories number.now.code.value database.now) ≡ Some m.now }
+    requires layout { layout_in m.now (text_of number.now.national) ≡ Some layout.now }
+    ensures { IfOk result (λ t. string_bytes t ≡
+        text_in database.now National (Some raw.now) number.now) }
+{
+    match kept(Some(raw), number) {
+        Some(raw) => kept_text(m.allocator(), Mode::National, raw, number),
+        None => bare_laid(database, m, layout, number),
+    }
+}
+
+/// The same, whatever the number was read from. Refused only for memory.
+fn bare_laid(
+    database: &Plans,
+    m: &Territory,
+    layout: &Format,
+    number: &PhoneNumber,
+) -> Result<String, AllocError>
+    requires territory { first_of (territories number.now.code.value database.now) ≡ Some m.now }
+    requires layout { layout_in m.now (text_of number.now.national) ≡ Some layout.now }
+    ensures { IfOk result (λ t. string_bytes t ≡
+        plain_text database.now National (plain number.now)) }
+{
+    let number = plain(number)?;
+    plain_laid(database, m, layout, &number)
+}
+
+/// The same of a number that is printed as it is. Refused only for memory.
+fn plain_laid(
+    database: &Plans,
+    m: &Territory,
+    layout: &Format,
+    number: &PhoneNumber,
+) -> Result<String, AllocError>
+    requires territory { first_of (territories number.now.code.value database.now) ≡ Some m.now }
+    requires layout { layout_in m.now (text_of number.now.national) ≡ Some layout.now }
+    ensures { IfOk result (λ t. string_bytes t ≡ plain_text database.now National number.now) }
+{
+    let finder = database.first_group_finder();
+    printing::text_by(
+        m.allocator(),
+        finder,
+        m,
+        Mode::National,
+        Rules::Library,
+        Some(layout),
+        &number.printable(),
+    )
 }
 
 /// The text that a number was read from, where it is printed in its place.

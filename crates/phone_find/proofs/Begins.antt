@@ -8,11 +8,11 @@ use Rattle.std.proofs.lemmas.Str.{IsUtf8-between, chars-append}
 use Rattle.std.specs.Str.{chars}
 use Rattle.phone_chars.specs.Characters.{is_plus}
 use Rattle.phone_parts.specs.Texts.{begins, ends}
-use Rattle.phone_finder_text.specs.Numbers.{is_begin, is_candidate, is_end, is_inside, is_piece, is_plain, is_shaped}
-use Rattle.phone_finder_text.specs.Rules.{followers, links, stamps}
-use Rattle.phone_finder_text.specs.Sets.{is_first, is_last}
-use Rattle.phone_finder_text.specs.Shapes.{has_date, has_few_digits}
-use Rattle.phone_finder_text.specs.Walks.{fits_some}
+use Rattle.phone_find.specs.Standing.{is_begin, is_candidate, is_end, is_inside, is_piece, is_plain, is_shaped}
+use Rattle.phone_find.specs.Rules.{followers, links, stamps}
+use Rattle.phone_find.specs.Sets.{is_first, is_last}
+use Rattle.phone_find.specs.Shapes.{has_date, has_few_digits}
+use Rattle.phone_find.specs.Walks.{fits_some}
 use Rattle.phone_find.specs.Alone.{is_opening}
 
 -- the characters from a place on are those of a piece and those behind it

@@ -7,7 +7,7 @@ use Rattle.std.proofs.lemmas.List.{drop-drop, drop_at, take_at}
 use Rattle.std.proofs.lemmas.Str.{IsCharBoundary-at_seam, IsUtf8-append, IsUtf8-take, chars-nil}
 use Rattle.std.specs.Str.{chars}
 use Rattle.phone_values.specs.declared.country.Id.{Id}
-use Rattle.phone_finder_text.specs.Sets.{is_last}
+use Rattle.phone_find.specs.Sets.{is_last}
 use Rattle.phone_parts.specs.Texts.{ends}
 use Rattle.phone_records.specs.declared.loader.Metadata.{Metadata}
 use Rattle.phone_engine.proofs.OneReading.{reading_same}

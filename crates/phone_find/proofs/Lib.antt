@@ -1,5 +1,6 @@
 pub mod Alone
 pub mod Begins
+pub mod Few
 pub mod FoundAlone
 pub mod Ones
 pub mod Places

@@ -40,9 +40,9 @@ use Rattle.phone_find.proofs.FoundAlone.{found_alone}
 use Rattle.phone_find.proofs.Shapes.{ends_extended, ends_number, made_extended, made_number, shaped_from}
 use Rattle.phone_find.specs.Alone.{EndsInDigits, IsAmong, IsNothingElse, IsPlainEnough, IsShaped}
 use Rattle.phone_find.specs.Alone.{is_opening, placed}
-use Rattle.phone_finder_text.specs.Numbers.{is_begin, is_candidate, is_piece}
-use Rattle.phone_finder_text.specs.Sets.{is_last}
-use Rattle.phone_finder_text.specs.Shapes.{has_few_digits, is_made}
+use Rattle.phone_find.specs.Standing.{is_begin, is_candidate, is_piece}
+use Rattle.phone_find.specs.Sets.{is_last}
+use Rattle.phone_find.specs.Shapes.{has_few_digits, is_made}
 use Rattle.phone_find.specs.Leniencies.{is_possible_count, suffices}
 use Rattle.phone_find.specs.Numbers.{AreNumbers, IsNumberBetween}
 use Rattle.phone_find.specs.declared.leniency.Leniency.{Leniency}

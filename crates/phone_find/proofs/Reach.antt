@@ -7,8 +7,8 @@ use Rattle.std.proofs.lemmas.Str.{IsCharBoundary-at_seam, IsCharBoundary-from_ta
 use Rattle.std.proofs.Math.Seq.{take-append_seam}
 use Rattle.std.specs.Str.{chars}
 use Rattle.phone_chars.specs.Cuts.{IsEnd}
-use Rattle.phone_finder_text.specs.Numbers.{is_candidate}
-use Rattle.phone_finder_text.specs.Shapes.{has_few_digits}
+use Rattle.phone_find.specs.Standing.{is_candidate}
+use Rattle.phone_find.specs.Shapes.{has_few_digits}
 use Rattle.phone_parts.proofs.Cores.{nil_from_chars}
 use Rattle.phone_parts.proofs.Longest.{cuts_meet}
 use Rattle.phone_find.proofs.Begins.{candidate_shape}

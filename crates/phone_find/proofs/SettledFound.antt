@@ -12,8 +12,8 @@ use Rattle.phone_values.specs.declared.country.Id.{Id}
 use Rattle.phone_values.specs.declared.reading.Reading.{Reading}
 use Rattle.phone_library_laws.proofs.ReadAgain.{settled_characters, settled_digits, settled_enough, settled_few}
 use Rattle.phone_library_laws.specs.Again.{IsSettled, e164_reading}
-use Rattle.phone_finder_text.specs.Sets.{is_last}
-use Rattle.phone_finder_text.specs.Shapes.{has_few_digits, is_made}
+use Rattle.phone_find.specs.Sets.{is_last}
+use Rattle.phone_find.specs.Shapes.{has_few_digits, is_made}
 use Rattle.phone_parts.specs.Texts.{begins, ends}
 use Rattle.phone_print.specs.Texts.{e164_text}
 use Rattle.phone_records.specs.declared.loader.Metadata.{Metadata}
@@ -22,7 +22,7 @@ use Rattle.phone_find.proofs.PrintedFound.{among_spaces, spaced_candidate}
 use Rattle.phone_find.proofs.Shapes.{ends_signed, few_of, made_signed, shaped_from}
 use Rattle.phone_find.specs.Alone.{IsAmong, IsNothingElse, IsShaped, placed}
 use Rattle.phone_find.specs.Leniencies.{suffices, suffices_in}
-use Rattle.phone_finder_text.specs.Numbers.{is_candidate}
+use Rattle.phone_find.specs.Standing.{is_candidate}
 use Rattle.phone_find.specs.Numbers.{AreNumbers, IsNumberBetween}
 use Rattle.phone_find.specs.declared.leniency.Leniency.{Leniency}
 use Rattle.phone_find.specs.declared.leniency.Leniency.TheVariants.{Possible, Valid}

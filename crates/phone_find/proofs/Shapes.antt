@@ -12,12 +12,12 @@ use Rattle.ucd_category.proofs.Computing.{ucd_category}
 use Rattle.phone_chars.specs.Characters.{is_digit, is_nd, is_one_of, is_plus, is_punctuation, is_separator}
 use Rattle.phone_chars.proofs.Runs.{front-append-after_front}
 use Rattle.phone_chars.specs.Cuts.{after_front, front}
-use Rattle.phone_finder_text.specs.Numbers.{is_end, is_plain, is_shaped}
-use Rattle.phone_finder_text.specs.Rules.{followers, labels, stamps}
-use Rattle.phone_finder_text.specs.Sets.{is_gap, is_inner, is_last, stands_for, stands_plainly}
-use Rattle.phone_finder_text.specs.Shapes.{are_extension_digits, has_date, has_few_digits, is_bracketed, is_extension}
-use Rattle.phone_finder_text.specs.Shapes.{is_made, is_nil, is_sign_or_end}
-use Rattle.phone_finder_text.specs.Walks.{fits_some}
+use Rattle.phone_find.specs.Standing.{is_end, is_plain, is_shaped}
+use Rattle.phone_find.specs.Rules.{followers, labels, stamps}
+use Rattle.phone_find.specs.Sets.{is_gap, is_inner, is_last, stands_for, stands_plainly}
+use Rattle.phone_find.specs.Shapes.{are_extension_digits, has_date, has_few_digits, is_bracketed, is_extension}
+use Rattle.phone_find.specs.Shapes.{is_made, is_nil, is_sign_or_end}
+use Rattle.phone_find.specs.Walks.{fits_some}
 use Rattle.phone_find.specs.Alone.{IsNothingElse, IsShaped}
 use Rattle.phone_parts.proofs.Cores.{ends-push}
 use Rattle.phone_parts.proofs.Ends.{all_wider}

@@ -9,7 +9,7 @@ use Rattle.phone_values.specs.declared.error.ParseError.TheVariants.{Memory}
 use Rattle.phone_records.specs.declared.loader.Metadata.{Metadata}
 use Rattle.phone_engine.proofs.OneReading.{reading_same}
 use Rattle.phone_find.proofs.Begins.{candidate_end, candidate_shape}
-use Rattle.phone_finder_text.specs.Numbers.{is_candidate, is_end, is_plain}
+use Rattle.phone_find.specs.Standing.{is_candidate, is_end, is_plain}
 use Rattle.phone_engine.specs.Readings.{ReadsBy}
 use Rattle.phone_values.specs.declared.rules.Rules.{Rules}
 use Rattle.phone_values.specs.declared.reading.Reading.{Reading}

@@ -3,11 +3,11 @@ use Rattle.std.specs.Prelude.{◌≡◌, ◌⊎◌, ◌||◌, ℕ, ◌≤◌, �
 use Rattle.std.specs.Prelude.{IsUtf8, chars, length, reverse, None, Some}
 use Rattle.std.specs.List.{list_any}
 use Rattle.phone_chars.specs.Characters.{is_digit, is_plus}
-use Rattle.phone_finder_text.specs.Numbers.{is_piece}
-use Rattle.phone_finder_text.specs.Rules.{followers, stamps}
-use Rattle.phone_finder_text.specs.Sets.{is_first, is_last}
-use Rattle.phone_finder_text.specs.Shapes.{has_date, is_bracketed}
-use Rattle.phone_finder_text.specs.Walks.{fits_some}
+use Rattle.phone_find.specs.Standing.{is_piece}
+use Rattle.phone_find.specs.Rules.{followers, stamps}
+use Rattle.phone_find.specs.Sets.{is_first, is_last}
+use Rattle.phone_find.specs.Shapes.{has_date, is_bracketed}
+use Rattle.phone_find.specs.Walks.{fits_some}
 use Rattle.phone_values.specs.Numbers.{text_of}
 use Rattle.phone_values.specs.declared.mode.Mode.TheVariants.{International}
 use Rattle.phone_plans.specs.CodeLookUps.{is_prefix_free}

@@ -2,3 +2,9 @@ pub mod Alone
 pub mod Founds
 pub mod Leniencies
 pub mod Numbers
+pub mod Rules
+pub mod Sets
+pub mod Shapes
+pub mod Standing
+pub mod Told
+pub mod Walks

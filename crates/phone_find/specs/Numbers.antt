@@ -6,7 +6,7 @@ use Rattle.phone_records.specs.declared.loader.Metadata.{Metadata}
 use Rattle.phone_engine.specs.Readings.{ReadsBy}
 use Rattle.phone_values.specs.declared.rules.Rules.{Rules}
 use Rattle.phone_values.specs.declared.reading.Reading.{Reading}
-use Rattle.phone_finder_text.specs.Numbers.{is_candidate}
+use Rattle.phone_find.specs.Standing.{is_candidate}
 use Rattle.phone_find.specs.Founds.{AreFound}
 use Rattle.phone_find.specs.Leniencies.{suffices_in}
 use Rattle.phone_find.specs.declared.leniency.Leniency.{Leniency}

@@ -17,7 +17,7 @@ ghost use Rattle.phone_find.specs.Alone.{IsShaped, placed};
 ghost use Rattle.phone_find.specs.Founds.{IsDecided, IsOrdered, most_bytes};
 ghost use Rattle.phone_find.specs.Leniencies.{suffices};
 ghost use Rattle.phone_find.specs.Numbers.{AreNumbers, IsNumberAt, IsNumberBetween};
-ghost use Rattle.phone_finder_text.specs.Shapes.{has_few_digits};
+ghost use Rattle.phone_find.specs.Shapes.{has_few_digits};
 ghost use Rattle.phone_find.specs.declared.leniency.Leniency.{Leniency};
 ghost use Rattle.phone_find.specs.declared.search.Found.{Found};
 ghost use Rattle.phone_values.specs.declared.rules.Rules.{Rules};

@@ -3,14 +3,14 @@ ghost use Rattle.std.specs.Prelude.{◌≡◌, ◌<◌, IfOk, MatchOption, None,
 ghost use Rattle.std.specs.Prelude.{IsCharBoundary, chars, drop, slice_range, take};
 ghost use Rattle.phone_values.specs.declared.reading.Reading.{Reading};
 ghost use Rattle.phone_find.specs.Leniencies.{suffices_in};
-ghost use Rattle.phone_finder_text.specs.Numbers.{is_candidate, is_end};
+ghost use Rattle.phone_find.specs.Standing.{is_candidate, is_end};
 ghost use Rattle.phone_find.specs.declared.leniency.Leniency.TheVariants as leniency;
 ghost use Rattle.phone_find.specs.Numbers.{AreNumbers, IsNumberAt, IsReadWell};
 
 use crate::leniency::{Leniency, suffices_in};
 use crate::search::{Found, Judge, all_accepted};
+use crate::{from_too_many, is_plain, is_shaped, may_begin, may_end};
 use phone_engine::Engine;
-use phone_finder_text::{from_too_many, is_plain, is_shaped, may_begin, may_end};
 use phone_values::ParseError;
 use phonenumber::PhoneNumber;
 use std::alloc::{AllocError, Global};
@@ -166,7 +166,7 @@ fn where_sufficient(
 /// number sign of an extension; that is digits, plus signs and what may stand between groups, and
 /// behind them perhaps an announced extension, as in ` ext. 12`; that is neither a part of
 /// something longer nor taken for something else, such as a date, a price, an account number or a
-/// time, by the rules of `phone_finder_text`; and that the engine reads, by itself, as a number
+/// time, by the rules of `standing`; and that the engine reads, by itself, as a number
 /// that suffices. Of a valid one libphonenumber's rules ask, too, that it has the national prefix
 /// that its layout writes, unless a plus sign, an international prefix or the calling code leads
 /// it.

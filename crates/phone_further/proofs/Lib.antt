@@ -5,5 +5,6 @@ pub mod KnownCosts
 pub mod Least
 pub mod Plain
 pub mod Read
+pub mod Templates
 pub mod TextReads
 pub mod Tried

@@ -12,13 +12,13 @@ use Rattle.phone_values.specs.declared.mode.Mode.TheVariants.{E164, Internationa
 use Rattle.phone_values.specs.declared.mode.Mode.TheVariants.{Rfc3966}
 use Rattle.phone_values.specs.declared.reading.Reading.{Reading}
 use Rattle.phone_plans.specs.CodeLookUps.{first_of, territories}
+use Rattle.phone_print.specs.Layouts.{fits}
 use Rattle.phone_print.specs.Texts.{extension_parameter, extension_part, hyphenated}
 use Rattle.phone_records.specs.declared.loader.Format.{Format}
 use Rattle.phone_records.specs.declared.loader.Metadata.{Metadata}
 use Rattle.phone_territory.specs.Layouts.{laid_by, layout_template, national_template}
 use Rattle.phone_questions.specs.Matches.{extension_told}
 use Rattle.phone_dialling.specs.Abroad.{if_some}
-use Rattle.phone_dialling.specs.Original.{is_layout_of}
 
 -- the template of national text: its rule counts where the territory has a national prefix
 abbrev pub home_template : Metadata → Format → List ℕ
@@ -78,7 +78,7 @@ assembled m Rfc3966 n laid = (codes "tel:+" ++ (decimal n.code.value ++ 45 ∷ w
 -- the text of a number in a mode by layouts, in its code's first territory
 abbrev pub text_by_own : Metadata → Mode → List Format → Reading → List ℕ
 text_by_own m mode layouts n = assembled m mode n (own_laid m mode
-    (find (is_layout_of (text_of n.national)) layouts) (text_of n.national))
+    (find (fits (text_of n.national)) layouts) (text_of n.national))
 
 -- the same under a database; of a code that isn't listed the digits
 abbrev pub text_by_layouts : List Metadata → Mode → List Format → Reading → List ℕ

@@ -6,7 +6,7 @@ ghost use Rattle.phone_further.specs.ShortRecords.{cost_by};
 ghost use Rattle.phone_further.specs.Costs.{is_valid_by, known_by, known_cost};
 ghost use Rattle.phone_values.specs.Numbers.{text_of};
 
-use crate::{cost_by, dearer, is_number_by, is_possible_by, short_records};
+use crate::records::{cost_by, dearer, is_number_by, is_possible_by, short_records};
 use itoa::Buffer;
 use phone_pattern::Subject;
 use phone_plans::{Plans, Territory};

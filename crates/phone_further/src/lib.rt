@@ -26,7 +26,6 @@ pub use lowest::example_of_kind;
 pub use matches::match_numbers;
 pub use own_layouts::text_by_layouts;
 pub use possible::possibility_of;
-pub use records::{cost_by, dearer, is_number_by, is_possible_by, short_records};
 pub use services::is_sms_service;
 pub use short_numbers::{
     FactsAnywhere, cost_anywhere, facts_anywhere, is_carrier_anywhere, is_possible_anywhere,

@@ -1,26 +1,30 @@
 //! The text of a number by layouts that are handed in.
-ghost use Rattle.std.specs.Prelude.{◌≡◌, ◌<◌, ◌++◌, ◌∷◌, IfOk, IfSome, MatchOption, None, OnOk};
-ghost use Rattle.std.specs.Prelude.{Some, chars, codes, encode_utf8_all, is_some, length};
-ghost use Rattle.std.specs.Prelude.{string_bytes};
+ghost use Rattle.std.specs.Prelude.{◌≡◌, ◌<◌, ◌++◌, ◌∷◌, IfOk, IfSome, MatchOption, OnOk, chars};
+ghost use Rattle.std.specs.Prelude.{codes, encode_utf8_all, is_some, length, string_bytes};
 ghost use Rattle.std.specs.Fmt.{decimal};
-ghost use Rattle.std.specs.Option.{option_and_then, option_copied};
-ghost use Rattle.phone_chars.specs.Characters.{is_separator};
-ghost use Rattle.phone_chars.specs.Cuts.{after_front};
+ghost use Rattle.std.specs.List.{find};
+ghost use Rattle.std.specs.Option.{option_and_then};
 ghost use Rattle.phone_dialling.specs.Abroad.{if_some};
 ghost use Rattle.phone_further.specs.OwnLayouts.{assembled, braced, home_template, in_braces};
 ghost use Rattle.phone_further.specs.OwnLayouts.{laid_by_digits, literal, names_group, own_laid};
 ghost use Rattle.phone_further.specs.OwnLayouts.{own_template, text_by_layouts, text_by_own};
 ghost use Rattle.phone_further.specs.OwnLayouts.{with_hyphens};
-ghost use Rattle.phone_parts.specs.Texts.{begins};
+ghost use Rattle.phone_print.specs.Layouts.{fits};
 ghost use Rattle.phone_print.specs.Texts.{extension_parameter, hyphenated};
 ghost use Rattle.phone_questions.specs.Matches.{extension_told};
-ghost use Rattle.phone_territory.specs.Layouts.{national_template};
+ghost use Rattle.phone_values.specs.Numbers.{text_of};
 
+use itoa::Buffer;
 use phone_chars::chars::is_separator;
 use phone_chars::cuts::{CharSet, after_run, split_first};
-use phone_dialling::{first_layout, with_extension};
+use phone_dialling::with_extension;
 use phone_plans::{FirstGroup, Format, Plans, Territory};
-use phone_values::Mode;
+use phone_print::hyphens::push_hyphenated;
+use phone_print::printing::first_layout;
+use phone_print::written::ROOM;
+use phone_questions::extension_told;
+use phone_territory::Subject;
+use phone_values::{Mode, Rules};
 use phonenumber::PhoneNumber;
 use std::alloc::{AllocError, Global};
 
@@ -56,25 +60,46 @@ fn text_by_own(
     ensures { IfOk result (λ t. string_bytes t ≡
         text_by_own m.now mode layouts.now number.now) }
 {
-    let digits = number.national().to_string(m.allocator())?;
-    let layout = first_layout(layouts, digits.as_str())?;
-    let laid = own_laid(finder, m, mode, layout, digits.as_str())?;
+    let laid = number_laid(finder, m, mode, layouts, number)?;
     assembled(m, mode, number, laid)
 }
 
-/// Digits laid out by a layout, where there is one. Refused only for memory.
-fn own_laid(
+/// A number's digits, laid out by the first of these layouts that is theirs. Refused only for
+/// memory.
+fn number_laid(
     finder: &FirstGroup,
     m: &Territory,
     mode: Mode,
-    layout: Option<&Format>,
+    layouts: &[Format],
+    number: &PhoneNumber,
+) -> Result<String, AllocError>
+    ensures { IfOk result (λ t. string_bytes t ≡ own_laid m.now mode
+        (find (fits (text_of number.now.national)) layouts.now) (text_of number.now.national)) }
+{
+    let national = number.national();
+    if national.zeros() == 0 {
+        let mut buffer = Buffer::new();
+        let digits = buffer.format(national.value());
+        return digits_laid(finder, m, mode, layouts, digits);
+    }
+    let digits = national.to_string(m.allocator())?;
+    digits_laid(finder, m, mode, layouts, digits.as_str())
+}
+
+/// The same of digits. Refused only for memory.
+fn digits_laid(
+    finder: &FirstGroup,
+    m: &Territory,
+    mode: Mode,
+    layouts: &[Format],
     digits: &str,
 ) -> Result<String, AllocError>
     ensures { IfOk result (λ t. string_bytes t ≡
-        own_laid m.now mode (option_copied layout.entry) digits.now) }
+        own_laid m.now mode (find (fits digits.now) layouts.now) digits.now) }
 {
-    match layout {
-        Some(layout) => laid_by(finder, m, mode, layout, digits),
+    let subject = Subject::of(digits);
+    match first_layout(Rules::Library, layouts, &subject)? {
+        Some(layout) => laid_by(finder, m, mode, layout, &subject),
         None => String::from_str(m.allocator(), digits),
     }
 }
@@ -85,14 +110,14 @@ fn laid_by(
     m: &Territory,
     mode: Mode,
     layout: &Format,
-    digits: &str,
+    digits: &Subject<'_>,
 ) -> Result<String, AllocError>
     ensures { IfOk result (λ t. string_bytes t ≡
         laid_by_digits layout.now (own_template m.now mode layout.now) digits.now) }
 {
     let template = own_template(finder, m, mode, layout)?;
     let template = braced(m.allocator(), template.as_str())?;
-    layout.whole_pattern().replace(template.as_str(), digits)
+    layout.whole_pattern().replace_in(template.as_str(), digits)
 }
 
 /// The template of a layout in a mode. Refused only for memory.
@@ -115,26 +140,9 @@ fn home_template(finder: &FirstGroup, m: &Territory, layout: &Format) -> Result<
     ensures { IfOk result (λ t. string_bytes t ≡ home_template m.now layout.now) }
 {
     if has_prefix(m) {
-        ruled_template(m.allocator(), finder, layout, m.national_prefix())
+        layout.national_template(finder, m.national_prefix())
     } else {
         String::from_str(m.allocator(), layout.format())
-    }
-}
-
-/// The template of national text behind this national prefix, by the layout's rule. Refused only
-/// for memory.
-fn ruled_template(
-    alloc: Global,
-    finder: &FirstGroup,
-    layout: &Format,
-    prefix: Option<&str>,
-) -> Result<String, AllocError>
-    ensures { IfOk result (λ t. string_bytes t ≡
-        national_template layout.now (option_copied prefix.entry) None) }
-{
-    match layout.national_prefix() {
-        Some(rule) => finder.apply_rule(layout.format(), rule, prefix.unwrap_or(""), ""),
-        None => String::from_str(alloc, layout.format()),
     }
 }
 
@@ -144,7 +152,7 @@ fn braced(alloc: Global, template: &str) -> Result<String, AllocError>
     ensures { IfOk result (λ t. string_bytes t ≡
         encode_utf8_all (braced (chars template.now))) }
 {
-    let mut out = String::new(alloc);
+    let mut out = String::with_capacity(alloc, ROOM)?;
     let mut rest = template;
     while let Some((c, after)) = split_first(rest) {
         if let Some((digit, behind)) = named_group(c, after) {
@@ -282,7 +290,7 @@ fn with_parameter(alloc: Global, text: String, number: &PhoneNumber) -> Result<S
     ensures { IfOk result (λ t. string_bytes t ≡
         string_bytes text ++ extension_parameter (extension_told number.now.extension)) }
 {
-    match told_extension(number) {
+    match extension_told(number.extension()) {
         Some(extension) => with_some_parameter(alloc, text, extension),
         None => Ok(text),
     }
@@ -294,23 +302,6 @@ fn with_some_parameter(alloc: Global, text: String, extension: &str) -> Result<S
         string_bytes text ++ extension_parameter (Some extension.now)) }
 {
     format!(in alloc; "{text};ext={extension}")
-}
-
-/// The extension of a number, where it isn't empty.
-fn told_extension(number: &PhoneNumber) -> Option<&str>
-    ensures { option_copied result ≡ extension_told number.entry.now.extension }
-{
-    match number.extension() {
-        Some(extension) => unless_empty(extension.as_str()),
-        None => None,
-    }
-}
-
-/// A text that isn't empty.
-fn unless_empty(text: &str) -> Option<&str>
-    ensures { option_copied result ≡ if_some text.entry.now }
-{
-    if text.is_empty() { None } else { Some(text) }
 }
 
 /// Digits that are laid out, with no separator in front, each other run of separators one hyphen.
@@ -340,25 +331,7 @@ fn hyphenated(alloc: Global, text: &str) -> Result<String, AllocError>
     ensures { IfOk result (λ t. string_bytes t ≡
         encode_utf8_all (hyphenated (chars text.now))) }
 {
-    let mut out = String::new(alloc);
-    let mut rest = text;
-    while let Some((c, after)) = split_first(rest) {
-        if !is_separator(c) {
-            out.push(c)?;
-        } else if !begins_apart(after) {
-            out.push('-')?;
-        }
-        rest = after;
-    }
+    let mut out = String::with_capacity(alloc, ROOM)?;
+    push_hyphenated(&mut out, text)?;
     Ok(out)
-}
-
-/// Whether the first character of a text is a separator.
-fn begins_apart(text: &str) -> bool
-    ensures { result ≡ begins is_separator (chars text.now) }
-{
-    match split_first(text) {
-        Some((c, _)) => is_separator(c),
-        None => false,
-    }
 }

@@ -21,7 +21,7 @@ use std::alloc::AllocError;
 /// The records of short numbers of the regions of a number's calling code, in the order of the
 /// code's territories; none for a territory whose region has no short numbers, or that is no
 /// region's. Refused only for memory.
-pub fn short_records<'d>(
+pub(crate) fn short_records<'d>(
     database: &Plans,
     short: &'d Plans,
     number: &PhoneNumber,
@@ -68,7 +68,7 @@ pub(crate) fn is_possible_among(records: &[Option<&Territory>], digits: &str) ->
 }
 
 /// Whether a record lists the count of digits; not without one. Takes no memory.
-pub fn is_possible_by(row: Option<&Territory>, digits: &str) -> bool
+pub(crate) fn is_possible_by(row: Option<&Territory>, digits: &str) -> bool
     ensures { result ≡ is_possible_by digits.now (option_copied row.entry) }
 {
     match row {
@@ -96,7 +96,7 @@ pub(crate) fn dearest_by(
 /// What digits cost by a record: of premium rate, standard rate and toll free the first whose
 /// descriptor has them; without one an emergency number is free. Unknown for all others, where the
 /// digits aren't possible, and without a record. Refused only for memory.
-pub fn cost_by(row: Option<&Territory>, digits: &Subject<'_>) -> Result<Cost, AllocError>
+pub(crate) fn cost_by(row: Option<&Territory>, digits: &Subject<'_>) -> Result<Cost, AllocError>
     ensures { IfOk result (λ c. c ≡ cost_by digits.now (option_copied row.entry)) }
 {
     match row {
@@ -107,7 +107,7 @@ pub fn cost_by(row: Option<&Territory>, digits: &Subject<'_>) -> Result<Cost, Al
 
 /// Of two costs, or of the second alone, the first there is of premium rate, an unknown cost,
 /// standard rate and nothing. Takes no memory.
-pub fn dearer(first: Option<Cost>, second: Cost) -> Cost
+pub(crate) fn dearer(first: Option<Cost>, second: Cost) -> Cost
     ensures { result ≡ dearest_of (held first ++ second ∷ []) }
 {
     match (first, second) {
@@ -199,7 +199,10 @@ pub(crate) fn is_valid_by_chosen(
 
 /// Whether digits are a number and a short code of a record; not without one. Refused only for
 /// memory.
-pub fn is_number_by(row: Option<&Territory>, digits: &Subject<'_>) -> Result<bool, AllocError>
+pub(crate) fn is_number_by(
+    row: Option<&Territory>,
+    digits: &Subject<'_>,
+) -> Result<bool, AllocError>
     ensures { IfOk result (λ b. b ≡ is_number_by digits.now (option_copied row.entry)) }
 {
     match row {

@@ -35,7 +35,7 @@ fn is_apart(c: char) -> bool
 
 /// Puts a text behind another, with each longest run of separators made one hyphen; all other
 /// characters stay in their order. Refused only for memory; then a part of it may stand there.
-pub(crate) fn push_hyphenated(out: &mut String, text: &str) -> Result<(), AllocError>
+pub fn push_hyphenated(out: &mut String, text: &str) -> Result<(), AllocError>
     ensures text { OnOk result (string_bytes out.new ≡ string_bytes out.old ++
         encode_utf8_all (hyphenated (chars text.now))) }
     ensures behind { OnErr result (IsBehind (string_bytes out.old) (string_bytes out.new)) }

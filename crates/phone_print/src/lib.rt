@@ -2,7 +2,7 @@
 #![tactic(auto)]
 
 mod appending;
-mod hyphens;
+pub mod hyphens;
 mod printable;
 pub mod printing;
 pub mod written;

@@ -380,6 +380,11 @@ fn laid_out(
         laid_out_by rules m.now mode (option_copied own.entry) number.now) }
 {
     let national = number.national();
+    if national.zeros() == 0 {
+        let mut buffer = Buffer::new();
+        let digits = buffer.format(national.value());
+        return laid_in_mode(alloc, finder, m, mode, rules, own, number, digits);
+    }
     let digits = text_of_value(alloc, format_args!("{national}"))?;
     laid_in_mode(alloc, finder, m, mode, rules, own, number, digits.as_str())
 }

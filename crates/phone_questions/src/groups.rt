@@ -124,7 +124,7 @@ fn laid_abroad(m: &Territory, digits: &str) -> Result<String, AllocError>
 
 /// The digits from `0` to `9`.
 #[derive(Drop)]
-struct Digits;
+pub struct Digits;
 
 impl CharSet for Digits {
     ghost use Rattle.phone_chars.specs.Characters.{is_digit};
@@ -136,9 +136,9 @@ impl CharSet for Digits {
     }
 }
 
-/// All other characters.
+/// All characters but the digits from `0` to `9`: those between groups of digits.
 #[derive(Drop)]
-struct Between;
+pub struct Between;
 
 impl CharSet for Between {
     ghost use Rattle.phone_questions.specs.Groups.{is_between};

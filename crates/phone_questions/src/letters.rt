@@ -54,7 +54,7 @@ fn as_key(c: char) -> char
 }
 
 /// The key that a character is dialled on, as its upper case is; none for what stands on no key.
-fn key_of(c: char) -> Option<char>
+pub fn key_of(c: char) -> Option<char>
     ensures { result ≡ key_of c }
 {
     match c {
@@ -81,8 +81,9 @@ pub fn diallable_only(alloc: Global, text: &str) -> Result<String, AllocError>
     text.chars().filter(|c| is_diallable(*c)).collect(alloc)
 }
 
-/// Whether a telephone can dial a character.
-fn is_diallable(c: char) -> bool
+/// Whether a telephone can dial a character: a digit from `0` to `9`, a plus sign, a star or a
+/// number sign.
+pub fn is_diallable(c: char) -> bool
     ensures { result ≡ is_diallable c }
 {
     is_digit(c) || matches!(c, '+' | '*' | '#')

@@ -20,10 +20,10 @@ mod truncation;
 pub use belonging::{is_dialled_by_region, is_dialled_from_abroad, is_geographical, is_valid_for};
 pub use carriers::{national_with_carrier, national_with_preferred_carrier};
 pub use details::{NumberDetails, details_of};
-pub use groups::{area_length, destination_length};
+pub use groups::{Between, Digits, area_length, destination_length};
 pub use kinds::{is_geographical_kind, kinds_of_code, kinds_of_region, mobile_token};
-pub use letters::{diallable_only, digits_only, has_letters, with_keys};
-pub use matches::{NumberMatch, match_of};
+pub use letters::{diallable_only, digits_only, has_letters, is_diallable, key_of, with_keys};
+pub use matches::{NumberMatch, extension_told, match_of};
 pub use possible::{possibility_as, verdict_in};
 pub use regions::{
     code_of_region, is_nanpa, is_portable, main_region, national_prefix, national_prefix_digits,

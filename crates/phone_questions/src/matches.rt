@@ -99,8 +99,8 @@ fn is_one_national(a: NationalNumber, b: NationalNumber) -> bool
     a.zeros() == b.zeros() && a.value() == b.value()
 }
 
-/// An extension that isn't empty.
-fn extension_told(extension: Option<&Extension>) -> Option<&str>
+/// The text of an extension that isn't empty.
+pub fn extension_told(extension: Option<&Extension>) -> Option<&str>
     ensures { option_copied result ≡ extension_told (option_copied extension.entry) }
 {
     match extension {

@@ -1,6 +1,6 @@
 //! A layout of national numbers, with its patterns compiled.
-ghost use Rattle.std.specs.Prelude.{◌≡◌, ◌-◌, ℕ, List, [], true, Some, Ok, option_map, IfOk};
-ghost use Rattle.std.specs.Prelude.{IsTrue, length, slice_get, string_bytes};
+ghost use Rattle.std.specs.Prelude.{◌≡◌, ◌-◌, ℕ, List, [], true, None, Some, Ok, option_map};
+ghost use Rattle.std.specs.Prelude.{IfOk, IsTrue, length, slice_get, string_bytes};
 ghost use Rattle.std.specs.Borrow.{Bor};
 ghost use Rattle.std.specs.Option.{option_copied, option_or};
 ghost use Rattle.phone_territory.specs.Layouts.{laid_by, layout_template, national_template};
@@ -251,6 +251,49 @@ impl Format {
         let laid = self.pattern.replace_in(template.as_str(), digits);
         self.ruled.keep(template, text, rule, prefix, carrier);
         laid
+    }
+
+    /// The template of national text for no carrier: the layout's own, with its first group written
+    /// by the national prefix's rule where there is one. Takes the territory's national prefix.
+    /// Such a template is kept for the numbers that follow. Refused only for memory.
+    pub fn national_template(
+        &self,
+        first_group: &FirstGroup,
+        prefix: Option<&str>,
+    ) -> Result<String, AllocError>
+        ensures { IfOk result (λ t. string_bytes t ≡
+            national_template self.now (option_copied prefix.entry) None) }
+    {
+        let alloc = self.pattern.allocator();
+        let text = self.text.as_str();
+        let Some(rule) = self.national_prefix() else {
+            return String::from_str(alloc, text);
+        };
+        let prefix = prefix.unwrap_or("");
+        match self.ruled.template(text, rule, prefix, "") {
+            Some(template) => String::from_str(alloc, template),
+            None => self.template_anew(first_group, rule, prefix),
+        }
+    }
+
+    /// The template with its first group written by a rule, which is kept where it is the first.
+    /// Refused only for memory.
+    #[cold]
+    #[inline(never)]
+    fn template_anew(
+        &self,
+        first_group: &FirstGroup,
+        rule: &str,
+        prefix: &str,
+    ) -> Result<String, AllocError>
+        ensures { IfOk result (λ t. string_bytes t ≡
+            ruled_template (layout_template self.now) rule.now prefix.now []) }
+    {
+        let text = self.text.as_str();
+        let template = first_group.apply_rule(text, rule, prefix, "")?;
+        let copy = String::from_str(self.pattern.allocator(), template.as_str())?;
+        self.ruled.keep(copy, text, rule, prefix, "");
+        Ok(template)
     }
 
     /// The rule of national text, and what its `$CC` stands for.

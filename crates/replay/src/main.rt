@@ -2,8 +2,8 @@
 //! words why, parted by tabs.
 //!
 //! - Without a word it goes over all tables, prints each line whose answer is another one here,
-//!   then how many lines agree, for each call, then what `using_examples` prints. Its status is 0
-//!   where all lines agree, else 1.
+//!   then how many lines agree, for each call, then what the examples of `usage` print. Its status
+//!   is 0 where all lines agree, else 1.
 //! - `answers FILE` prints the answer to each line of a file, which may leave out answer and words.
 //! - `line FILE N` answers line N of a file, counted from 1, twice, and says whether both answers
 //!   are the wanted one, or the first is want of memory: `tools/refuse-memory` refuses the requests
@@ -20,6 +20,7 @@ mod devices;
 mod errors;
 mod forms;
 mod told;
+mod usage;
 mod values;
 mod whole;
 

@@ -1,5 +1,6 @@
 //! All tables.
 use crate::calls::{AtHand, answer_or_error};
+use crate::usage;
 use anyhow::Result;
 use replay_base::table::Row;
 use replay_base::tally::Tally;
@@ -53,7 +54,7 @@ pub fn replay<R: Files + AllocGlobal + Print>(rt: &R) -> Result<bool> {
         let (call, agree, all) = (count.call.as_str(), count.agree, count.all);
         println!(rt; "{call}: {agree} of {all} lines agree")?;
     }
-    using_examples::examples(rt, "databases/three.json")?;
+    usage::examples(rt, "databases/three.json")?;
     Ok(tally.all_agree())
 }
 

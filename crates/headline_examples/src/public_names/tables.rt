@@ -1,4 +1,4 @@
-//! The names of tables and lists: `phone_csv`, `phone_table`, `phone_prefixes`, `phone_maps` and
+//! The names of tables and lists: `phone_csv`, `phone_table`, `phone_prefixes`, `phone_places` and
 //! `phone_book`.
 pub use phone_book::{Book, BookError, BookNewError, Place};
 pub use phone_csv::answer_records;

@@ -11,8 +11,8 @@ use Rattle.std.proofs.Common.{ap, ◌∙◌}
 use Rattle.headline_examples.specs.Samples.{nz}
 use Rattle.ucd_case.proofs.Computing.{ucd_case}
 use Rattle.ucd_category.proofs.Computing.{ucd_category}
-use Rattle.phone_finder_text.specs.Rules.{dates, followers, labels, stamps}
-use Rattle.phone_finder_text.specs.Sets.{stands_for, stands_plainly}
+use Rattle.phone_find.specs.Rules.{dates, followers, labels, stamps}
+use Rattle.phone_find.specs.Sets.{stands_for, stands_plainly}
 use Rattle.headline_examples.proofs.dialled.found_in_a_text.Goals as goal
 
 pub returns : goal.returns

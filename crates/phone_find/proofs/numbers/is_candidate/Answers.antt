@@ -1,6 +1,6 @@
 use Rattle.std.proofs.Common.{◌≡◌, chars, drop, slice_range, take, ap, ◌∙◌}
 use Rattle.std.proofs.Math.Nat.{sub-zero}
-use Rattle.phone_finder_text.specs.Numbers.{is_shaped}
+use Rattle.phone_find.specs.Standing.{is_shaped}
 use Rattle.phone_find.proofs.Begins.{by_shape, read_piece}
 use Rattle.phone_find.proofs.numbers.is_candidate.Goals as goal
 

@@ -1,5 +1,5 @@
 use Rattle.std.proofs.Common.{◌≡◌, chars, drop, slice_range, take, ap, ap₂, subst, ◌∙◌}
-use Rattle.phone_finder_text.specs.Numbers.{is_end, is_plain}
+use Rattle.phone_find.specs.Standing.{is_end, is_plain}
 use Rattle.phone_find.proofs.Told.{Told, told_endless, told_read, told_rough}
 use Rattle.phone_find.specs.Numbers.{IsReadWell}
 use Rattle.phone_find.proofs.numbers.number_at.Goals as goal

@@ -2,7 +2,7 @@ use Rattle.std.proofs.Common.{◌≡◌, ◌≤◌, ◌<◌, ◌+◌, ◌++◌, 
 use Rattle.std.proofs.Common.{IsCharBoundary, slice_range}
 use Rattle.std.proofs.lemmas.Bool.{leb-false, leb-true}
 use Rattle.phone_chars.specs.Cuts.{IsEnd}
-use Rattle.phone_finder_text.specs.Shapes.{has_few_digits}
+use Rattle.phone_find.specs.Shapes.{has_few_digits}
 use Rattle.phone_find.proofs.Reach.{border_before, candidate_reach}
 use Rattle.phone_find.proofs.numbers.SufficientJudgePhoneNumber.reach.Goals as goal
 
