@@ -16,6 +16,7 @@ use phone_c_base::status::{BAD_NUMBER, CLOSED, MEMORY, NO_MODE, NOT_UTF8, OK, TO
 use phone_c_questions::carriers::national_with;
 use phone_c_questions::matches;
 use phone_c_questions::texts::{letters, normalized};
+use phone_further::LibraryLikeness;
 use std::alloc::Global;
 
 /// Tells how like two numbers are, which are given as `phone_format` takes them: 1 two numbers, 2
@@ -40,7 +41,15 @@ pub extern "C" fn phone_match_numbers(
     ensures other { ¬ (result ≡ OK) → ¬ (result ≡ BAD_NUMBER) → result ≡ MEMORY }
     ensures untouched { ¬ (result ≡ OK) → told.new ≡ told.old }
 {
-    matches::numbers(alloc, first, first_bytes, second, second_bytes, told)
+    matches::numbers(
+        &LibraryLikeness,
+        alloc,
+        first,
+        first_bytes,
+        second,
+        second_bytes,
+        told,
+    )
 }
 
 /// Tells the same of a number and a text, perhaps without its calling code; 0 where the text is no
@@ -72,7 +81,14 @@ pub extern "C" fn phone_match_text(
     let Some(opened) = take(alloc, handle) else {
         return CLOSED;
     };
-    let status = matches::text(opened.database(), number, bytes, text, told);
+    let status = matches::text(
+        &LibraryLikeness,
+        opened.database(),
+        number,
+        bytes,
+        text,
+        told,
+    );
     put(alloc, handle, opened);
     status
 }
@@ -102,7 +118,7 @@ pub extern "C" fn phone_match_texts(
     let Some(opened) = take(alloc, handle) else {
         return CLOSED;
     };
-    let status = matches::texts(opened.database(), first, second, told);
+    let status = matches::texts(&LibraryLikeness, opened.database(), first, second, told);
     put(alloc, handle, opened);
     status
 }

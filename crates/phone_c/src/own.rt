@@ -5,15 +5,16 @@ ghost use Rattle.phone_c_base.specs.Buffers.{IsTooLongA, IsWrittenA};
 ghost use Rattle.phone_c_base.specs.Handles.{IsClosed, IsKept};
 ghost use Rattle.phone_c_base.specs.Kinds.{kind_of};
 ghost use Rattle.phone_c_base.specs.Numbers.{AreNoNumber, AreNone};
-ghost use Rattle.phone_c_questions.specs.OwnMatches.{AreOwnMatch, AreOwnMatchTexts, IsOwnMatchText};
+ghost use Rattle.phone_c_questions.specs.Matches.{AreOwnMatch, AreOwnMatchTexts, IsOwnMatchText};
 ghost use Rattle.phone_c_questions.specs.Own.{IsKnownCost, IsOwnMobileText, IsPossibilityOf};
 ghost use Rattle.phone_c_questions.specs.Own.{IsReach};
 
 use phone_c_base::handle::{Handle, put, take};
 use phone_c_base::number::Number;
 use phone_c_base::status::{BAD_NUMBER, CLOSED, MEMORY, NO_KIND, NOT_UTF8, OK, TOO_SMALL};
+use phone_c_questions::matches;
 use phone_c_questions::own::{cost, mobile, possibility, reach};
-use phone_c_questions::own_matches;
+use phone_further::OwnLikeness;
 use std::alloc::Global;
 
 /// Writes what a mobile phone dials to reach a number, as `phone_mobile_text` does, but each region
@@ -191,7 +192,15 @@ pub extern "C" fn phone_own_match_numbers(
     ensures other { ¬ (result ≡ OK) → ¬ (result ≡ BAD_NUMBER) → result ≡ MEMORY }
     ensures untouched { ¬ (result ≡ OK) → told.new ≡ told.old }
 {
-    own_matches::numbers(alloc, first, first_bytes, second, second_bytes, told)
+    matches::numbers(
+        &OwnLikeness,
+        alloc,
+        first,
+        first_bytes,
+        second,
+        second_bytes,
+        told,
+    )
 }
 
 /// Tells the same of a number and a text, perhaps without its calling code, as `phone_match_text`
@@ -223,7 +232,7 @@ pub extern "C" fn phone_own_match_text(
     let Some(opened) = take(alloc, handle) else {
         return CLOSED;
     };
-    let status = own_matches::text(opened.database(), number, bytes, text, told);
+    let status = matches::text(&OwnLikeness, opened.database(), number, bytes, text, told);
     put(alloc, handle, opened);
     status
 }
@@ -253,7 +262,7 @@ pub extern "C" fn phone_own_match_texts(
     let Some(opened) = take(alloc, handle) else {
         return CLOSED;
     };
-    let status = own_matches::texts(opened.database(), first, second, told);
+    let status = matches::texts(&OwnLikeness, opened.database(), first, second, told);
     put(alloc, handle, opened);
     status
 }

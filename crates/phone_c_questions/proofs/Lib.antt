@@ -7,6 +7,5 @@ pub mod OneExamples
 pub mod OneMatches
 pub mod OneOriginals
 pub mod OneOwnAnswers
-pub mod OneOwnMatches
 pub mod OneWays
 pub mod TextsFrom

@@ -15,7 +15,7 @@ use Rattle.phone_c_base.specs.declared.number.Number as plain
 use Rattle.phone_c_base.specs.declared.number.Part.{Part}
 use Rattle.phone_c_questions.specs.Matches.{match_number}
 use Rattle.phone_c_questions.specs.Numbers.{validation_number}
-use Rattle.phone_c_questions.specs.OwnMatches.{AreOwnMatch}
+use Rattle.phone_c_questions.specs.Matches.{AreOwnMatch}
 use Rattle.phone_c_questions.specs.Own.{IsKnownCost, IsOwnMobileText, IsPossibilityOf, IsReach, own_mobile_text}
 
 -- a number without its texts

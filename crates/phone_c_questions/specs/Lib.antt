@@ -8,7 +8,6 @@ pub mod Letters
 pub mod Matches
 pub mod Numbers
 pub mod Own
-pub mod OwnMatches
 pub mod Regions
 pub mod Services
 pub mod ShortNumbers

@@ -1,10 +1,12 @@
 //! What a call says is said of one answer alone. These functions do nothing; their contracts are
 //! the statements.
 ghost use Rattle.std.specs.Prelude.{◌≡◌, ℕ, List};
+ghost use Rattle.phone_values.specs.declared.reading.Reading.{Reading};
 ghost use Rattle.phone_records.specs.declared.loader.Metadata as loader;
+ghost use Rattle.phone_questions.specs.declared.matches.NumberMatch.{NumberMatch};
 ghost use Rattle.phone_c_base.specs.declared.number.Number as plain;
 ghost use Rattle.phone_c_questions.specs.Carriers.{IsNationalWith};
-ghost use Rattle.phone_c_questions.specs.Matches.{AreMatch, AreMatchTexts, IsMatchText};
+ghost use Rattle.phone_c_questions.specs.Matches.{AreLikeTexts, AreMatch, IsLikeText};
 ghost use Rattle.phone_c_questions.specs.Numbers.{AreNumberFacts, IsPossibilityAs, IsValidityFor};
 ghost use Rattle.phone_c_questions.specs.Truncation.{IsTruncated};
 ghost use Rattle.phone_c_questions.specs.declared.numbers.NumberFacts.{NumberFacts};
@@ -29,10 +31,13 @@ pub fn one_answer()
         IsNationalWith db x bytes carrier prefers_own b → a ≡ b }
 {}
 
-/// A number and a text match in one way, and so do two texts.
+/// A number and a text match in one way, and so do two texts, by whatever two numbers are, and one
+/// is to one that was read beside it.
 pub fn one_match()
-    ensures text { (db : List loader.Metadata) (x : plain.Number) (bytes t : List ℕ) (j k : ℕ) →
-        IsMatchText db x bytes t j → IsMatchText db x bytes t k → j ≡ k }
-    ensures texts { (db : List loader.Metadata) (t u : List ℕ) (j k : ℕ) →
-        AreMatchTexts db t u j → AreMatchTexts db t u k → j ≡ k }
+    ensures text { (like guessed : Reading → Reading → NumberMatch) (db : List loader.Metadata)
+        (x : plain.Number) (bytes t : List ℕ) (j k : ℕ) →
+        IsLikeText like guessed db x bytes t j → IsLikeText like guessed db x bytes t k → j ≡ k }
+    ensures texts { (like guessed : Reading → Reading → NumberMatch) (db : List loader.Metadata)
+        (t u : List ℕ) (j k : ℕ) →
+        AreLikeTexts like guessed db t u j → AreLikeTexts like guessed db t u k → j ≡ k }
 {}

@@ -21,7 +21,6 @@ mod modes;
 pub mod numbers;
 pub mod own;
 pub mod own_laws;
-pub mod own_matches;
 mod plain;
 pub mod regions;
 pub mod services;

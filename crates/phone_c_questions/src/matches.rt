@@ -1,19 +1,19 @@
-//! How like numbers and texts are.
+//! How like numbers and texts are, by whose rules.
 ghost use Rattle.std.specs.Prelude.{◌≡◌, ◌⊎◌, ◌↔◌, IsUtf8};
 ghost use Rattle.phone_c_base.specs.Numbers.{AreNoNumber};
-ghost use Rattle.phone_questions.specs.Matches.{match_of};
-ghost use Rattle.phone_c_questions.specs.Matches.{AreMatch, AreMatchTexts, IsMatchText};
+ghost use Rattle.phone_c_questions.specs.Matches.{AreLike, AreLikeTexts, IsLikeText};
 ghost use Rattle.phone_c_questions.specs.Matches.{match_number};
 
 use phone_c_base::number::{Number, to_phone_number};
 use phone_c_base::status::{BAD_NUMBER, MEMORY, NOT_UTF8, OK};
+use phone_further::{Likeness, match_text, match_texts};
 use phone_plans::Plans;
-use phone_questions::{NumberMatch, match_of};
+use phone_questions::NumberMatch;
 use phonenumber::PhoneNumber;
 use std::alloc::Global;
 
 /// How like two numbers are, by its number.
-pub(crate) fn match_number(found: NumberMatch) -> u32
+fn match_number(found: NumberMatch) -> u32
     ensures { result ≡ match_number found }
 {
     match found {
@@ -26,12 +26,19 @@ pub(crate) fn match_number(found: NumberMatch) -> u32
 }
 
 /// Tells how like two numbers are, by its number.
-fn tell(alloc: Global, first: &PhoneNumber, second: &PhoneNumber, told: &mut u32) -> u32
-    ensures told { result ≡ OK → told.new ≡ match_number (match_of first.now second.now) }
+fn tell<L: Likeness>(
+    likeness: &L,
+    alloc: Global,
+    first: &PhoneNumber,
+    second: &PhoneNumber,
+    told: &mut u32,
+) -> u32
+    ensures told { result ≡ OK →
+        told.new ≡ match_number (L.like likeness.now first.now second.now) }
     ensures status { (result ≡ OK) ⊎ (result ≡ MEMORY) }
     ensures untouched { ¬ (result ≡ OK) → told.new ≡ told.old }
 {
-    match match_of(alloc, first, second) {
+    match likeness.match_numbers(alloc, first, second) {
         Ok(found) => {
             *told = match_number(found);
             OK
@@ -41,7 +48,8 @@ fn tell(alloc: Global, first: &PhoneNumber, second: &PhoneNumber, told: &mut u32
 }
 
 /// How like two numbers are that are given as plain numbers.
-pub fn numbers(
+pub fn numbers<L: Likeness>(
+    likeness: &L,
     alloc: Global,
     first: &Number,
     first_bytes: &[u8],
@@ -49,8 +57,8 @@ pub fn numbers(
     second_bytes: &[u8],
     told: &mut u32,
 ) -> u32
-    ensures told { result ≡ OK → AreMatch first.now first_bytes.now second.now second_bytes.now
-        told.new }
+    ensures told { result ≡ OK → AreLike (L.like likeness.now) first.now first_bytes.now
+        second.now second_bytes.now told.new }
     ensures bad { (result ≡ BAD_NUMBER) ↔ (AreNoNumber first.now first_bytes.now ⊎
         AreNoNumber second.now second_bytes.now) }
     ensures other { ¬ (result ≡ OK) → ¬ (result ≡ BAD_NUMBER) → result ≡ MEMORY }
@@ -59,7 +67,7 @@ pub fn numbers(
     let first = to_phone_number(alloc, first, first_bytes);
     let second = to_phone_number(alloc, second, second_bytes);
     match (first, second) {
-        (Ok(first), Ok(second)) => tell(alloc, &first, &second, told),
+        (Ok(first), Ok(second)) => tell(likeness, alloc, &first, &second, told),
         (Ok(_), Err(status)) => status,
         (Err(status), Ok(_)) => status,
         (Err(status), Err(other)) => either_bad(status, other),
@@ -67,7 +75,7 @@ pub fn numbers(
 }
 
 /// Of two statuses that one which says that there is no number.
-pub(crate) fn either_bad(status: u32, other: u32) -> u32
+fn either_bad(status: u32, other: u32) -> u32
     ensures bad { (result ≡ BAD_NUMBER) ↔ ((status ≡ BAD_NUMBER) ⊎ (other ≡ BAD_NUMBER)) }
     ensures one { (result ≡ status) ⊎ (result ≡ other) }
 {
@@ -75,9 +83,17 @@ pub(crate) fn either_bad(status: u32, other: u32) -> u32
 }
 
 /// How like a number that is given as plain numbers and a text are.
-pub fn text(database: &Plans, number: &Number, bytes: &[u8], text: &[u8], told: &mut u32) -> u32
+pub fn text<L: Likeness>(
+    likeness: &L,
+    database: &Plans,
+    number: &Number,
+    bytes: &[u8],
+    text: &[u8],
+    told: &mut u32,
+) -> u32
     ensures told { result ≡ OK →
-        IsMatchText database.now number.now bytes.now text.now told.new }
+        IsLikeText (L.like likeness.now) (L.guessed likeness.now) database.now number.now
+        bytes.now text.now told.new }
     ensures not_utf8 { (result ≡ NOT_UTF8) ↔ ¬ (IsUtf8 text.now) }
     ensures bad { (result ≡ BAD_NUMBER) ↔
         (IsUtf8 text.now × AreNoNumber number.now bytes.now) }
@@ -92,7 +108,7 @@ pub fn text(database: &Plans, number: &Number, bytes: &[u8], text: &[u8], told: 
         Ok(number) => number,
         Err(status) => return status,
     };
-    match phone_questions::match_text(database, &number, text) {
+    match match_text(likeness, database, &number, text) {
         Ok(found) => {
             *told = match_number(found);
             OK
@@ -102,8 +118,15 @@ pub fn text(database: &Plans, number: &Number, bytes: &[u8], text: &[u8], told: 
 }
 
 /// How like two texts are.
-pub fn texts(database: &Plans, first: &[u8], second: &[u8], told: &mut u32) -> u32
-    ensures told { result ≡ OK → AreMatchTexts database.now first.now second.now told.new }
+pub fn texts<L: Likeness>(
+    likeness: &L,
+    database: &Plans,
+    first: &[u8],
+    second: &[u8],
+    told: &mut u32,
+) -> u32
+    ensures told { result ≡ OK → AreLikeTexts (L.like likeness.now) (L.guessed likeness.now)
+        database.now first.now second.now told.new }
     ensures not_utf8 { (result ≡ NOT_UTF8) ↔ ¬ (IsUtf8 first.now × IsUtf8 second.now) }
     ensures other { ¬ (result ≡ OK) → ¬ (result ≡ NOT_UTF8) → result ≡ MEMORY }
     ensures untouched { ¬ (result ≡ OK) → told.new ≡ told.old }
@@ -114,7 +137,7 @@ pub fn texts(database: &Plans, first: &[u8], second: &[u8], told: &mut u32) -> u
     let Ok(second) = std::str::from_utf8(second) else {
         return NOT_UTF8;
     };
-    match phone_questions::match_texts(database, first, second) {
+    match match_texts(likeness, database, first, second) {
         Ok(found) => {
             *told = match_number(found);
             OK

@@ -4,7 +4,7 @@ ghost use Rattle.std.specs.Prelude.{◌≡◌, ℕ, List};
 ghost use Rattle.phone_records.specs.declared.loader.Metadata as loader;
 ghost use Rattle.phone_c_base.specs.declared.number.Number as plain;
 ghost use Rattle.phone_c_questions.specs.Letters.{IsDialledText, IsLetteredText};
-ghost use Rattle.phone_c_questions.specs.OwnMatches.{AreOwnMatch, AreOwnMatchTexts, IsOwnMatchText};
+ghost use Rattle.phone_c_questions.specs.Matches.{AreOwnMatch};
 ghost use Rattle.phone_c_questions.specs.Own.{IsKnownCost, IsOwnMobileText, IsPossibilityOf};
 ghost use Rattle.phone_c_questions.specs.Own.{IsReach};
 
@@ -34,12 +34,4 @@ pub fn one_way()
     ensures dialled { (db : List loader.Metadata) (region raw : List ℕ) (x : plain.Number)
         (bytes t u : List ℕ) → IsDialledText db region raw x bytes t →
         IsDialledText db region raw x bytes u → t ≡ u }
-{}
-
-/// A number and a text match in one way, and so do two texts.
-pub fn one_match()
-    ensures text { (db : List loader.Metadata) (x : plain.Number) (bytes t : List ℕ) (j k : ℕ) →
-        IsOwnMatchText db x bytes t j → IsOwnMatchText db x bytes t k → j ≡ k }
-    ensures texts { (db : List loader.Metadata) (t u : List ℕ) (j k : ℕ) →
-        AreOwnMatchTexts db t u j → AreOwnMatchTexts db t u k → j ≡ k }
 {}

@@ -13,10 +13,10 @@ ghost use Rattle.phone_prefixes.specs.Refusals.{Refuses};
 ghost use Rattle.phone_prefixes.specs.Tables.{IsTable};
 
 use crate::pairs::Tabs;
-use phone_places::CountriesError;
 use phone_device::{ByteSource, MemorySink, Std};
 use phone_languages::Locale;
 use phone_lines::{RunError, take_lines};
+use phone_places::CountriesError;
 use phone_prefixes::{Prefixes, PrefixesError};
 use phone_table::{Extra, Owner, Part, Shown, Told, Which};
 use phone_words::Further;

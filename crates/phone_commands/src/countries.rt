@@ -3,8 +3,8 @@ ghost use Rattle.std.specs.Prelude.{◌≡◌, IfOk};
 ghost use Rattle.std.specs.Option.{is_some};
 
 use crate::columns::NoColumns;
-use phone_places::{Countries, CountriesError};
 use phone_device::{ReadError, Std, read_all};
+use phone_places::{Countries, CountriesError};
 use std::alloc::AllocGlobal;
 use std::fs::{self, Files};
 

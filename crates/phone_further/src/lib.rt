@@ -1,13 +1,14 @@
 //! Further questions by libphonenumber's rules: examples of numbers that a database gives, and of
-//! one that isn't valid; the text of a number by layouts that are handed in; which short numbers
-//! are services to which messages are sent, and what one is where its region isn't told. And our
-//! own answers, where libphonenumber's mislead.
+//! one that isn't valid; how like texts are; the text of a number by layouts that are handed in;
+//! which short numbers are services to which messages are sent, and what one is where its region
+//! isn't told. And our own answers, where libphonenumber's mislead.
 #![tactic(auto)]
 
 mod answers;
 mod costs;
 mod examples;
 mod invalid;
+mod likeness;
 mod lowest;
 mod matches;
 mod own_layouts;
@@ -22,6 +23,7 @@ pub use answers::{mobile_text_in, own_layouts_text, reaches_from_abroad};
 pub use costs::known_cost;
 pub use examples::example_of_code;
 pub use invalid::invalid_example;
+pub use likeness::{LibraryLikeness, Likeness, OwnLikeness};
 pub use lowest::example_of_kind;
 pub use matches::match_numbers;
 pub use own_layouts::text_by_layouts;

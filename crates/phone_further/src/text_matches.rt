@@ -1,37 +1,39 @@
-//! How like a number and a text are: our own answer.
-ghost use Rattle.std.specs.Prelude.{◌≡◌, Err, IfOk, None, OnOk, Result, chars};
+//! How like a number and a text are, and two texts, by what two numbers are.
+ghost use Rattle.std.specs.Prelude.{◌≡◌, ◌⊎◌, Err, IfOk, None, Ok, OnOk, Result, chars};
 ghost use Rattle.phone_library.specs.Readings.{ReadsByLibrary};
-ghost use Rattle.phone_questions.specs.TextMatches.{IsBare, IsBeside, unsure};
 ghost use Rattle.phone_values.specs.declared.error.ParseError.{ParseError as Refusal};
 ghost use Rattle.phone_values.specs.declared.reading.Reading.{Reading};
-ghost use Rattle.phone_further.specs.TextMatches.{AreBareMatch, AreTextsMatch, IsTextMatch};
-ghost use Rattle.phone_further.specs.TextMatches.{is_behind_prefix, match_bare, match_beside};
-ghost use Rattle.phone_further.specs.TextMatches.{match_guessed};
+ghost use Rattle.phone_further.specs.TextMatches.{AreBareMatch, AreTextsMatch, IsBare, IsBeside};
+ghost use Rattle.phone_further.specs.TextMatches.{IsTextMatch, bare_number, match_read};
 
-use crate::matches::match_numbers;
-use phone_library::parse;
+use crate::likeness::Likeness;
+use phone_library::{national_number, parse};
+use phone_library_text::{WrittenNumber, read_written};
 use phone_plans::Plans;
-use phone_questions::{NumberMatch, read_bare, read_beside};
+use phone_questions::NumberMatch;
 use phone_values::ParseError;
-use phone_values::country::Source;
+use phone_values::country::{Code, Source};
 use phonenumber::PhoneNumber;
-use std::alloc::{AllocError, Global};
+use std::alloc::AllocError;
 
-/// How like a number and a text are: as `match_text` of `phone_questions`, but by `match_numbers`,
-/// and exactly like where the text has the calling code behind an international prefix, as
-/// `0064 3 331 6005` beside a number of New Zealand. Refused only for memory.
-pub fn match_text(
+/// How like a number and a text are, by what two numbers are. The text is read without a hint;
+/// where it tells no calling code, beside the number: under the main region of the number's code,
+/// and as it stands where that isn't listed. `NotANumber` where the text is refused for another
+/// reason, or refused again. Refused only for memory.
+pub fn match_text<L: Likeness>(
+    likeness: &L,
     database: &Plans,
     number: &PhoneNumber,
     text: &str,
 ) -> Result<NumberMatch, AllocError>
-    ensures { IfOk result (λ m. IsTextMatch database.now number.now (chars text.now) m) }
+    ensures { IfOk result (λ m. IsTextMatch (L.like likeness.now)
+        (L.guessed likeness.now) database.now number.now (chars text.now) m) }
 {
     match parse(database, None, text) {
-        Ok(read) => match_numbers(database.allocator(), number, &read),
+        Ok(read) => likeness.match_numbers(database.allocator(), number, &read),
         Err(error) => {
             if error == ParseError::InvalidCountryCode {
-                match_beside(database, number, text)
+                match_beside(likeness, database, number, text)
             } else {
                 not_a_number(error)
             }
@@ -39,16 +41,24 @@ pub fn match_text(
     }
 }
 
-/// How like two texts are: as `match_texts` of `phone_questions`, but the first one that tells a
-/// calling code is matched with the other as [`match_text`] has it. Refused only for memory.
-pub fn match_texts(database: &Plans, a: &str, b: &str) -> Result<NumberMatch, AllocError>
-    ensures { IfOk result (λ m. AreTextsMatch database.now (chars a.now) (chars b.now) m) }
+/// How like two texts are. Both are read without a hint, and the first one that tells a calling
+/// code is matched with the other as [`match_text`] has it; where neither tells one, they are
+/// matched as they stand. `NotANumber` where a text is refused for another reason, or refused
+/// again. Refused only for memory.
+pub fn match_texts<L: Likeness>(
+    likeness: &L,
+    database: &Plans,
+    a: &str,
+    b: &str,
+) -> Result<NumberMatch, AllocError>
+    ensures { IfOk result (λ m. AreTextsMatch (L.like likeness.now) (L.guessed likeness.now)
+        database.now (chars a.now) (chars b.now) m) }
 {
     match parse(database, None, a) {
-        Ok(number) => match_text(database, &number, b),
+        Ok(number) => match_text(likeness, database, &number, b),
         Err(error) => {
             if error == ParseError::InvalidCountryCode {
-                match_uncoded(database, a, b)
+                match_uncoded(likeness, database, a, b)
             } else {
                 not_a_number(error)
             }
@@ -57,16 +67,22 @@ pub fn match_texts(database: &Plans, a: &str, b: &str) -> Result<NumberMatch, Al
 }
 
 /// How like two texts are of which the first tells no calling code.
-fn match_uncoded(database: &Plans, a: &str, b: &str) -> Result<NumberMatch, AllocError>
+fn match_uncoded<L: Likeness>(
+    likeness: &L,
+    database: &Plans,
+    a: &str,
+    b: &str,
+) -> Result<NumberMatch, AllocError>
     ensures { IfOk result (λ m.
         ReadsByLibrary database.now None (chars a.now) (Err ParseError.InvalidCountryCode) →
-        AreTextsMatch database.now (chars a.now) (chars b.now) m) }
+        AreTextsMatch (L.like likeness.now) (L.guessed likeness.now) database.now (chars a.now)
+        (chars b.now) m) }
 {
     match parse(database, None, b) {
-        Ok(number) => match_text(database, &number, a),
+        Ok(number) => match_text(likeness, database, &number, a),
         Err(error) => {
             if error == ParseError::InvalidCountryCode {
-                match_uncoded_texts(database, a, b)
+                match_bare(likeness, database, a, b)
             } else {
                 not_a_number(error)
             }
@@ -75,22 +91,33 @@ fn match_uncoded(database: &Plans, a: &str, b: &str) -> Result<NumberMatch, Allo
 }
 
 /// How like two texts without a calling code are.
-fn match_uncoded_texts(database: &Plans, a: &str, b: &str) -> Result<NumberMatch, AllocError>
-    ensures { IfOk result (λ m. AreBareMatch (chars a.now) (chars b.now) m) }
+fn match_bare<L: Likeness>(
+    likeness: &L,
+    database: &Plans,
+    a: &str,
+    b: &str,
+) -> Result<NumberMatch, AllocError>
+    ensures { IfOk result (λ m.
+        AreBareMatch (L.like likeness.now) (chars a.now) (chars b.now) m) }
 {
     match read_bare(database, a) {
-        Ok(number) => match_bare(database, &number, b),
+        Ok(number) => match_second(likeness, database, &number, b),
         Err(error) => not_a_number(error),
     }
 }
 
 /// How like a number without a calling code and such a text are.
-fn match_bare(database: &Plans, number: &PhoneNumber, text: &str) -> Result<NumberMatch, AllocError>
+fn match_second<L: Likeness>(
+    likeness: &L,
+    database: &Plans,
+    number: &PhoneNumber,
+    text: &str,
+) -> Result<NumberMatch, AllocError>
     ensures { IfOk result (λ m. (r : Result Reading Refusal) × IsBare (chars text.now) r ×
-        (m ≡ match_bare number.now r)) }
+        (m ≡ match_read (L.like likeness.now) number.now r)) }
 {
     match read_bare(database, text) {
-        Ok(read) => match_numbers(database.allocator(), number, &read),
+        Ok(read) => likeness.match_numbers(database.allocator(), number, &read),
         Err(error) => not_a_number(error),
     }
 }
@@ -106,50 +133,63 @@ fn not_a_number(error: ParseError) -> Result<NumberMatch, AllocError>
     }
 }
 
-/// How like a number and a text are that is read beside it.
-fn match_beside(
+/// How like a number and a text without a calling code are.
+fn match_beside<L: Likeness>(
+    likeness: &L,
     database: &Plans,
     number: &PhoneNumber,
     text: &str,
 ) -> Result<NumberMatch, AllocError>
     ensures { IfOk result (λ m. (r : Result Reading Refusal) ×
         IsBeside database.now number.now.code.value (chars text.now) r ×
-        (m ≡ match_beside number.now r)) }
+        (m ≡ match_read (L.guessed likeness.now) number.now r)) }
 {
     match read_beside(database, number.code().value(), text) {
-        Ok(read) => match_guessed(database.allocator(), number, &read),
+        Ok(read) => likeness.match_beside(database.allocator(), number, &read),
         Err(error) => not_a_number(error),
     }
 }
 
-/// How like two numbers are of which the second was read beside the first. Refused only for memory.
-fn match_guessed(alloc: Global, a: &PhoneNumber, b: &PhoneNumber) -> Result<NumberMatch, AllocError>
-    ensures { IfOk result (λ m. m ≡ match_guessed a.now b.now) }
+/// What a text without a calling code is beside a number of this code: as it is read under the main
+/// region of the code, where that is listed; else as it stands. Refused as reading refuses it.
+fn read_beside(database: &Plans, code: u16, text: &str) -> Result<PhoneNumber, ParseError>
+    ensures { (result ≡ Err ParseError.Memory) ⊎
+        IsBeside database.now code (chars text.now) result }
 {
-    let found = match_numbers(alloc, a, b)?;
-    if is_behind_prefix(b.code().source()) {
-        Ok(found)
-    } else {
-        Ok(unsure(found))
+    match database.first_by_code(&code) {
+        Some(territory) => parse(database, territory.region(), text),
+        None => read_bare(database, text),
     }
 }
 
-/// Whether a calling code stands behind an international prefix.
-fn is_behind_prefix(source: Source) -> bool
-    ensures { result ≡ is_behind_prefix source }
+/// What a text is without a calling code: its digits under the code 0, which no number has, and its
+/// extension. `InvalidCountryCode` behind a plus sign; else refused as reading refuses it.
+fn read_bare(database: &Plans, text: &str) -> Result<PhoneNumber, ParseError>
+    ensures { (result ≡ Err ParseError.Memory) ⊎ IsBare (chars text.now) result }
 {
-    match source {
-        Source::Idd => true,
-        _ => false,
+    match read_written(database.allocator(), text) {
+        Ok(number) => bare_number(number),
+        Err(error) => Err(error),
     }
 }
 
-/// No match is exact where a calling code was guessed.
-fn unsure(found: NumberMatch) -> NumberMatch
-    ensures { result ≡ unsure found }
+/// The number of written digits, where no calling code is told.
+fn bare_number(number: WrittenNumber) -> Result<PhoneNumber, ParseError>
+    ensures { result ≡ bare_number (Ok number) }
 {
-    match found {
-        NumberMatch::ExactMatch => NumberMatch::NsnMatch,
-        _ => found,
+    let WrittenNumber {
+        has_plus,
+        digits,
+        extension,
+    } = number;
+    if has_plus {
+        return Err(ParseError::InvalidCountryCode);
+    }
+    match national_number(digits.as_str()) {
+        Ok(national) => {
+            let code = Code::new(0, Source::Default);
+            Ok(PhoneNumber::from_parts(code, national, extension, None))
+        }
+        Err(error) => Err(error),
     }
 }

@@ -5,7 +5,6 @@ pub mod Fits
 pub mod Fronts
 pub mod Keys
 pub mod OwnSwaps
-pub mod OwnTextSwaps
 pub mod OwnValidPossible
 pub mod Swaps
 pub mod TextSwaps

@@ -17,7 +17,7 @@ ghost use Rattle.phone_laws.specs.AreaCodes.{IsBeginning, KeepsDigits};
 ghost use Rattle.phone_laws.specs.AreaCodes.{destination_digits};
 ghost use Rattle.phone_further.specs.Matches.{match_numbers};
 ghost use Rattle.phone_further.specs.Possible.{possibility_of};
-ghost use Rattle.phone_further.specs.TextMatches.{AreTextsMatch};
+ghost use Rattle.phone_further.specs.TextMatches.{AreTextsMatch, match_guessed};
 
 use phone_library_laws::facts;
 use phone_library_text::laws as text_laws;
@@ -45,7 +45,8 @@ pub fn swapped_numbers()
 /// Two texts are as like in one order as in the other.
 pub fn swapped_texts()
     ensures { (db : List loader.Metadata) (t u : List ℕ) (x : NumberMatch) →
-        AreTextsMatch db t u x → AreTextsMatch db u t x }
+        AreTextsMatch match_numbers match_guessed db t u x →
+        AreTextsMatch match_numbers match_guessed db u t x }
 {
     text_laws::some_written();
 }

@@ -11,10 +11,10 @@ ghost use Rattle.phonenumber.specs.Bounds.{IsBounded};
 ghost use Rattle.phone_questions.specs.Letters.{with_keys};
 ghost use Rattle.phone_questions.specs.Matches.{match_of};
 ghost use Rattle.phone_questions.specs.Possible.{possibility_as};
-ghost use Rattle.phone_questions.specs.TextMatches.{AreTextsMatch};
 ghost use Rattle.phone_questions.specs.Truncation.{IsCutFrom, truncated};
 ghost use Rattle.phone_questions.specs.declared.matches.NumberMatch.{NumberMatch};
 ghost use Rattle.phone_questions.specs.declared.matches.NumberMatch.TheVariants as number_match;
+ghost use Rattle.phone_further.specs.TextMatches.{AreTextsMatch, match_unsure};
 
 use phone_library_laws::facts;
 use phone_library_text::laws as text_laws;
@@ -27,7 +27,8 @@ pub fn swapped_numbers()
 /// Two texts are as like in one order as in the other.
 pub fn swapped_texts()
     ensures { (db : List loader.Metadata) (t u : List ℕ) (x : NumberMatch) →
-        AreTextsMatch db t u x → AreTextsMatch db u t x }
+        AreTextsMatch match_of match_unsure db t u x →
+        AreTextsMatch match_of match_unsure db u t x }
 {
     text_laws::some_written();
 }

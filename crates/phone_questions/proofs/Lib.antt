@@ -2,5 +2,4 @@ pub mod Cuts
 pub mod GroupLengths
 pub mod Lengths
 pub mod Lettered
-pub mod TextReads
 pub mod Verdicts

@@ -7,5 +7,4 @@ pub mod Letters
 pub mod Matches
 pub mod Possible
 pub mod Regions
-pub mod TextMatches
 pub mod Truncation

@@ -14,7 +14,6 @@ mod letters;
 mod matches;
 mod possible;
 mod regions;
-mod text_matches;
 mod truncation;
 
 pub use belonging::{is_dialled_by_region, is_dialled_from_abroad, is_geographical, is_valid_for};
@@ -28,5 +27,4 @@ pub use possible::{possibility_as, verdict_in};
 pub use regions::{
     code_of_region, is_nanpa, is_portable, main_region, national_prefix, national_prefix_digits,
 };
-pub use text_matches::{match_text, match_texts, read_bare, read_beside};
 pub use truncation::truncated;

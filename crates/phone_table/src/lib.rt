@@ -23,8 +23,8 @@ pub use key::e164_of;
 pub use phone_answers::{
     ANSWER_WIDTH, Answer, Extra, Field, Owner, Part, Shown, Told, Which, answer_to, finds, objects,
 };
-pub use phone_places::{Countries, id_in};
 pub use phone_csv::{ByteSink, ByteSource, FirstError, RunError};
+pub use phone_places::{Countries, id_in};
 pub use phone_summary::{Summary, Tally};
 pub use run::{Asked, TableError, write_table};
 pub use summed::Totals;

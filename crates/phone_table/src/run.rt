@@ -21,10 +21,10 @@ use crate::table::Table;
 use crate::unknown::UnknownNames;
 use csv::ByteRecord;
 use phone_answers::Extra;
-use phone_places::Countries;
 use phone_csv::{First, FirstError, RunError, first_record, is_delimiter};
 use phone_device::{ByteSink, ByteSource};
 use phone_engine::Engine;
+use phone_places::Countries;
 use phone_plans::Plans;
 use std::alloc::Global;
 

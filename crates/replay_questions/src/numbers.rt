@@ -1,12 +1,15 @@
 //! Questions on numbers.
 use crate::given::{number, parts, yes};
 use anyhow::Result;
-use phone_further::{match_numbers, possibility_of, reaches_from_abroad};
+use phone_further::{
+    LibraryLikeness, Likeness, OwnLikeness, match_text, match_texts, possibility_of,
+    reaches_from_abroad,
+};
 use phone_meta::Database;
 use phone_questions::{
     NumberMatch, area_length, destination_length, is_dialled_from_abroad, is_geographical,
-    is_valid_for, match_of, match_text, match_texts, national_with_carrier,
-    national_with_preferred_carrier, possibility_as, truncated,
+    is_valid_for, national_with_carrier, national_with_preferred_carrier, possibility_as,
+    truncated,
 };
 use phone_values::Type;
 use phonenumber::PhoneNumber;
@@ -17,12 +20,10 @@ use std::alloc::Global;
 /// The answer to a line; none for any other question.
 pub fn answer(alloc: Global, row: &Row, db: &Database) -> Result<Option<String>> {
     if row.argument(1) == "match-texts" {
-        let found = match_texts(db, row.argument(2), row.argument(3))?;
-        return Ok(Some(match_word(alloc, found)?));
+        return Ok(Some(texts_like(alloc, row, db, &LibraryLikeness)?));
     }
     if row.argument(1) == "own-match-texts" {
-        let found = phone_further::match_texts(db, row.argument(2), row.argument(3))?;
-        return Ok(Some(match_word(alloc, found)?));
+        return Ok(Some(texts_like(alloc, row, db, &OwnLikeness)?));
     }
     if row.argument(1) == "keep" {
         return Ok(Some(kept(alloc, row, db)?));
@@ -63,10 +64,10 @@ fn beside(alloc: Global, row: &Row, db: &Database, n: &PhoneNumber) -> Result<Op
         "truncate" => cut(alloc, db, n),
         "carrier" => with_carrier(db, carrier(row), n),
         "preferred" => with_preferred(db, carrier(row), n),
-        "match" => match_second(alloc, row, db, n),
-        "own-match" => own_match(alloc, row, db, n),
-        "match-text" => match_second_text(alloc, db, n, row.argument(4)),
-        "own-match-text" => own_match_text(alloc, db, n, row.argument(4)),
+        "match" => second_like(alloc, row, db, n, &LibraryLikeness),
+        "own-match" => second_like(alloc, row, db, n, &OwnLikeness),
+        "match-text" => text_like(alloc, db, n, row.argument(4), &LibraryLikeness),
+        "own-match-text" => text_like(alloc, db, n, row.argument(4), &OwnLikeness),
         _ => return Ok(None),
     };
     Ok(Some(answer?))
@@ -133,26 +134,38 @@ fn cut(alloc: Global, db: &Database, n: &PhoneNumber) -> Result<String> {
     }
 }
 
-/// How like a number and the second one of a line are.
-fn match_second(alloc: Global, row: &Row, db: &Database, n: &PhoneNumber) -> Result<String> {
-    let other = number(alloc, row, db, 4)?;
-    match_word(alloc, match_of(alloc, n, &other)?)
+/// How like the two texts of a line are.
+fn texts_like<L: Likeness>(
+    alloc: Global,
+    row: &Row,
+    db: &Database,
+    likeness: &L,
+) -> Result<String> {
+    let found = match_texts(likeness, db, row.argument(2), row.argument(3))?;
+    match_word(alloc, found)
 }
 
-/// The same by our own answer.
-fn own_match(alloc: Global, row: &Row, db: &Database, n: &PhoneNumber) -> Result<String> {
+/// How like a number and the second one of a line are.
+fn second_like<L: Likeness>(
+    alloc: Global,
+    row: &Row,
+    db: &Database,
+    n: &PhoneNumber,
+    likeness: &L,
+) -> Result<String> {
     let other = number(alloc, row, db, 4)?;
-    match_word(alloc, match_numbers(alloc, n, &other)?)
+    match_word(alloc, likeness.match_numbers(alloc, n, &other)?)
 }
 
 /// How like a number and a text are.
-fn match_second_text(alloc: Global, db: &Database, n: &PhoneNumber, text: &str) -> Result<String> {
-    match_word(alloc, match_text(db, n, text)?)
-}
-
-/// How like a number and a text are, by our own answer.
-fn own_match_text(alloc: Global, db: &Database, n: &PhoneNumber, text: &str) -> Result<String> {
-    match_word(alloc, phone_further::match_text(db, n, text)?)
+fn text_like<L: Likeness>(
+    alloc: Global,
+    db: &Database,
+    n: &PhoneNumber,
+    text: &str,
+    likeness: &L,
+) -> Result<String> {
+    match_word(alloc, match_text(likeness, db, n, text)?)
 }
 
 /// The word for how like two numbers are.

@@ -1,5 +1,6 @@
-use Rattle.std.proofs.Common.{◌≡◌, ℕ, List, Some, string_bytes}
+use Rattle.std.proofs.Common.{◌≡◌, ℕ, List, Some, string_bytes, ap, ◌∙◌}
 use Rattle.phone_values.specs.declared.mode.Mode.TheVariants.{National}
+use Rattle.phone_values.specs.declared.reading.Reading.{Reading}
 use Rattle.phone_values.specs.declared.rules.Rules.TheVariants.{Library}
 use Rattle.phone_print.specs.Texts.{text_by_rules}
 use Rattle.phone_dialling.specs.Texts.{plain_text}
@@ -13,5 +14,6 @@ returns c =
     let m = c.args.m.now in
     let f = c.args.layout.now in
     let n = c.args.number.now in
-    told_so string_bytes (λ (t : List ℕ). t ≡ plain_text db National n) (text_by_rules Library m National (Some f) n) c.text_by.result
-    (laid-plain db m f n c.requires.territory c.requires.layout) c.text_by.ensures
+    let same = ap (λ (k : Reading). text_by_rules Library m National (Some f) k) c.printable.ensures in
+    told_so string_bytes (λ (t : List ℕ). t ≡ plain_text db National n) (text_by_rules Library m National (Some f) c.printable.result) c.text_by.result
+    (same ∙ laid-plain db m f n c.requires.territory c.requires.layout) c.text_by.ensures

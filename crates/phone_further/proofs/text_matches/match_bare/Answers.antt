@@ -1,13 +1,14 @@
-use Rattle.std.proofs.Common.{chars, refl}
-use Rattle.phone_questions.specs.TextMatches.{IsBare}
-use Rattle.phone_further.specs.TextMatches.{match_bare}
-use Rattle.phone_further.proofs.TextReads.{matched_so, unmatched_so}
+use Rattle.std.proofs.Common.{chars}
+use Rattle.phone_further.proofs.TextReads.{bare_refused_so, bare_so}
 use Rattle.phone_further.proofs.text_matches.match_bare.Goals as goal
 
 pub returns-in-Ok : goal.returns-in-Ok
-returns-in-Ok c = matched_so (IsBare (chars c.args.text.now)) (match_bare c.args.number.now) c.in-Ok.read c.match_numbers.result c.in-Ok.ensures c.match_numbers.ensures
+returns-in-Ok g c =
+    let like = g.L.Likeness.like c.args.likeness.now in
+    bare_so like (chars c.args.a.now) (chars c.args.b.now) c.in-Ok.number c.match_second.result c.in-Ok.ensures c.match_second.ensures
 
 pub returns-in-Err : goal.returns-in-Err
-returns-in-Err c =
-    unmatched_so (IsBare (chars c.args.text.now)) (match_bare c.args.number.now) c.in-Err.error c.not_a_number.result refl c.in-Err.ensures
+returns-in-Err g c =
+    let like = g.L.Likeness.like c.args.likeness.now in
+    bare_refused_so like (chars c.args.a.now) (chars c.args.b.now) c.in-Err.error c.not_a_number.result c.in-Err.ensures
     c.not_a_number.ensures.number c.not_a_number.ensures.memory

@@ -4,18 +4,24 @@ use Rattle.phone_further.proofs.TextReads.{beside_so, read_so, refused_so}
 use Rattle.phone_further.proofs.text_matches.match_text.Goals as goal
 
 pub returns-in-Ok : goal.returns-in-Ok
-returns-in-Ok c =
-    read_so c.args.database.now c.args.number.now (chars c.args.text.now) c.in-Ok.read c.match_numbers.result c.in-Ok.ensures c.match_numbers.ensures
+returns-in-Ok g c =
+    let like = g.L.Likeness.like c.args.likeness.now in
+    let guessed = g.L.Likeness.guessed c.args.likeness.now in
+    read_so like guessed c.args.database.now c.args.number.now (chars c.args.text.now) c.in-Ok.read c.match_numbers.result c.in-Ok.ensures c.match_numbers.ensures
 
 pub returns-then-eq : goal.returns-then-eq
-returns-then-eq c =
+returns-then-eq g c =
+    let like = g.L.Likeness.like c.args.likeness.now in
+    let guessed = g.L.Likeness.guessed c.args.likeness.now in
     let error = c.in-Err.error in
     let why : error ≡ InvalidCountryCode = (let x = c.eq.ensures in let y = c.if-eq.true in grind arith) in
-    beside_so c.args.database.now c.args.number.now (chars c.args.text.now) error c.match_beside.result why c.in-Err.ensures c.match_beside.ensures
+    beside_so like guessed c.args.database.now c.args.number.now (chars c.args.text.now) error c.match_beside.result why c.in-Err.ensures c.match_beside.ensures
 
 pub returns-else-eq : goal.returns-else-eq
-returns-else-eq c =
+returns-else-eq g c =
+    let like = g.L.Likeness.like c.args.likeness.now in
+    let guessed = g.L.Likeness.guessed c.args.likeness.now in
     let error = c.in-Err.error in
     let other : ¬ (error ≡ InvalidCountryCode) = (λ e. let x = c.eq.ensures in let y = c.if-eq.false in grind arith) in
-    refused_so c.args.database.now c.args.number.now (chars c.args.text.now) error c.not_a_number.result other c.in-Err.ensures
+    refused_so like guessed c.args.database.now c.args.number.now (chars c.args.text.now) error c.not_a_number.result other c.in-Err.ensures
     c.not_a_number.ensures.number c.not_a_number.ensures.memory

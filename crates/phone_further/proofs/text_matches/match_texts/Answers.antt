@@ -4,18 +4,24 @@ use Rattle.phone_further.proofs.TextReads.{first_refused_so, first_so, uncoded_s
 use Rattle.phone_further.proofs.text_matches.match_texts.Goals as goal
 
 pub returns-in-Ok : goal.returns-in-Ok
-returns-in-Ok c =
-    first_so c.args.database.now (chars c.args.a.now) (chars c.args.b.now) c.in-Ok.number c.match_text.result c.in-Ok.ensures c.match_text.ensures
+returns-in-Ok g c =
+    let like = g.L.Likeness.like c.args.likeness.now in
+    let guessed = g.L.Likeness.guessed c.args.likeness.now in
+    first_so like guessed c.args.database.now (chars c.args.a.now) (chars c.args.b.now) c.in-Ok.number c.match_text.result c.in-Ok.ensures c.match_text.ensures
 
 pub returns-then-eq : goal.returns-then-eq
-returns-then-eq c =
+returns-then-eq g c =
+    let like = g.L.Likeness.like c.args.likeness.now in
+    let guessed = g.L.Likeness.guessed c.args.likeness.now in
     let error = c.in-Err.error in
     let why : error ≡ InvalidCountryCode = (let x = c.eq.ensures in let y = c.if-eq.true in grind arith) in
-    uncoded_so c.args.database.now (chars c.args.a.now) (chars c.args.b.now) error c.match_uncoded.result why c.in-Err.ensures c.match_uncoded.ensures
+    uncoded_so like guessed c.args.database.now (chars c.args.a.now) (chars c.args.b.now) error c.match_uncoded.result why c.in-Err.ensures c.match_uncoded.ensures
 
 pub returns-else-eq : goal.returns-else-eq
-returns-else-eq c =
+returns-else-eq g c =
+    let like = g.L.Likeness.like c.args.likeness.now in
+    let guessed = g.L.Likeness.guessed c.args.likeness.now in
     let error = c.in-Err.error in
     let other : ¬ (error ≡ InvalidCountryCode) = (λ e. let x = c.eq.ensures in let y = c.if-eq.false in grind arith) in
-    first_refused_so c.args.database.now (chars c.args.a.now) (chars c.args.b.now) error c.not_a_number.result other c.in-Err.ensures
+    first_refused_so like guessed c.args.database.now (chars c.args.a.now) (chars c.args.b.now) error c.not_a_number.result other c.in-Err.ensures
     c.not_a_number.ensures.number c.not_a_number.ensures.memory

@@ -4,18 +4,24 @@ use Rattle.phone_further.proofs.TextReads.{neither_so, second_refused_so, second
 use Rattle.phone_further.proofs.text_matches.match_uncoded.Goals as goal
 
 pub returns-in-Ok : goal.returns-in-Ok
-returns-in-Ok c =
-    second_so c.args.database.now (chars c.args.a.now) (chars c.args.b.now) c.in-Ok.number c.match_text.result c.in-Ok.ensures c.match_text.ensures
+returns-in-Ok g c =
+    let like = g.L.Likeness.like c.args.likeness.now in
+    let guessed = g.L.Likeness.guessed c.args.likeness.now in
+    second_so like guessed c.args.database.now (chars c.args.a.now) (chars c.args.b.now) c.in-Ok.number c.match_text.result c.in-Ok.ensures c.match_text.ensures
 
 pub returns-then-eq : goal.returns-then-eq
-returns-then-eq c =
+returns-then-eq g c =
+    let like = g.L.Likeness.like c.args.likeness.now in
+    let guessed = g.L.Likeness.guessed c.args.likeness.now in
     let error = c.in-Err.error in
     let why : error ≡ InvalidCountryCode = (let x = c.eq.ensures in let y = c.if-eq.true in grind arith) in
-    neither_so c.args.database.now (chars c.args.a.now) (chars c.args.b.now) error c.match_uncoded_texts.result why c.in-Err.ensures c.match_uncoded_texts.ensures
+    neither_so like guessed c.args.database.now (chars c.args.a.now) (chars c.args.b.now) error c.match_bare.result why c.in-Err.ensures c.match_bare.ensures
 
 pub returns-else-eq : goal.returns-else-eq
-returns-else-eq c =
+returns-else-eq g c =
+    let like = g.L.Likeness.like c.args.likeness.now in
+    let guessed = g.L.Likeness.guessed c.args.likeness.now in
     let error = c.in-Err.error in
     let other : ¬ (error ≡ InvalidCountryCode) = (λ e. let x = c.eq.ensures in let y = c.if-eq.false in grind arith) in
-    second_refused_so c.args.database.now (chars c.args.a.now) (chars c.args.b.now) error c.not_a_number.result other c.in-Err.ensures
+    second_refused_so like guessed c.args.database.now (chars c.args.a.now) (chars c.args.b.now) error c.not_a_number.result other c.in-Err.ensures
     c.not_a_number.ensures.number c.not_a_number.ensures.memory

@@ -1,7 +1,7 @@
 use Rattle.std.proofs.Common.{chars, ap, sym, ◌∙◌}
 use Rattle.std.specs.Option.{option_copied}
-use Rattle.phone_questions.proofs.TextReads.{listed_so, unlisted_so}
-use Rattle.phone_questions.proofs.text_matches.read_beside.Goals as goal
+use Rattle.phone_further.proofs.TextReads.{listed_so, unlisted_so}
+use Rattle.phone_further.proofs.text_matches.read_beside.Goals as goal
 
 pub returns-in-Some : goal.returns-in-Some
 returns-in-Some c =
