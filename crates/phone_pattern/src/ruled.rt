@@ -1,4 +1,4 @@
-//! The place in which a layout keeps its template of national text from one number to the next.
+//! The places in which a layout keeps its templates of national text from one number to the next.
 ghost use Rattle.std.specs.Prelude.{◌≡◌, IfSome, string_bytes};
 ghost use Rattle.phone_pattern.specs.Rules.{ruled_template};
 
@@ -80,9 +80,9 @@ impl Ruled {
         ensures { IfSome result (λ t. t.now ≡
             ruled_template text.now rule.now prefix.now carrier.now) }
     {
-        let is_same = self.text.as_str() == text
+        let is_same = self.prefix.as_str() == prefix
+            && self.text.as_str() == text
             && self.rule.as_str() == rule
-            && self.prefix.as_str() == prefix
             && self.carrier.as_str() == carrier;
         if is_same {
             Some(self.template.as_str())
@@ -92,20 +92,23 @@ impl Ruled {
     }
 }
 
-/// Keeps the template of national text that a layout made first for no carrier, for as long as the
-/// layout is there. It is set once, so that several threads may read it at a time. Of what a cell
-/// holds nothing is known, so each use names the texts of which the template is to be made, and one
-/// of other texts doesn't serve.
+/// How many templates are kept: national prefixes are few, five with none in today's table.
+const SLOTS: usize = 5;
+
+/// Keeps the templates of national text that a layout made first for no carrier, one a national
+/// prefix, for as long as the layout is there. Each is set once, so that several threads may read
+/// it at a time. Of what a cell holds nothing is known, so each use names the texts of which the
+/// template is to be made, and one of other texts doesn't serve.
 pub struct KeptRuled {
     alloc: Global,
-    slot: OnceBox<Ruled>,
+    slots: [OnceBox<Ruled>; SLOTS],
 }
 
 /// Drops what is kept: as a function it is proved once.
 impl Drop for KeptRuled {
     fn drop(self) {
-        let KeptRuled { alloc: _, slot } = self;
-        drop(slot);
+        let KeptRuled { alloc: _, slots } = self;
+        drop(slots);
     }
 }
 
@@ -114,7 +117,13 @@ impl KeptRuled {
     pub fn new(alloc: Global) -> KeptRuled {
         KeptRuled {
             alloc,
-            slot: OnceBox::new(alloc),
+            slots: [
+                OnceBox::new(alloc),
+                OnceBox::new(alloc),
+                OnceBox::new(alloc),
+                OnceBox::new(alloc),
+                OnceBox::new(alloc),
+            ],
         }
     }
 
@@ -123,11 +132,17 @@ impl KeptRuled {
         ensures { IfSome result (λ t. t.now ≡
             ruled_template text.now rule.now prefix.now carrier.now) }
     {
-        self.slot.get()?.made_of(text, rule, prefix, carrier)
+        for slot in &self.slots {
+            let made = slot.get()?.made_of(text, rule, prefix, carrier);
+            if made.is_some() {
+                return made;
+            }
+        }
+        None
     }
 
     /// Keeps a template with the texts of which it was made, for the numbers that follow, where the
-    /// carrier is empty and nothing is kept yet. Else, and where memory for it is refused, it is
+    /// carrier is empty and a place is free. Else, and where memory for it is refused, it is
     /// dropped.
     pub fn keep(&self, template: String, text: &str, rule: &str, prefix: &str, carrier: &str)
         requires { string_bytes template ≡
@@ -136,17 +151,30 @@ impl KeptRuled {
         if !carrier.is_empty() {
             return;
         }
+        let Some(slot) = self.free() else {
+            return;
+        };
         if let Ok(ruled) = Ruled::new(self.alloc, template, text, rule, prefix, carrier) {
-            self.put(ruled);
+            self.put(slot, ruled);
         }
     }
 
-    /// Puts a template in its place, where none is there yet.
-    fn put(&self, ruled: Ruled) {
+    /// The first place that is free.
+    fn free(&self) -> Option<&OnceBox<Ruled>> {
+        for slot in &self.slots {
+            if slot.get().is_none() {
+                return Some(slot);
+            }
+        }
+        None
+    }
+
+    /// Puts a template in a place, where none is there yet.
+    fn put(&self, slot: &OnceBox<Ruled>, ruled: Ruled) {
         let Ok(ruled) = Box::new(self.alloc, ruled) else {
             return;
         };
-        if let Err(late) = self.slot.set(ruled) {
+        if let Err(late) = slot.set(ruled) {
             drop(late);
         }
     }

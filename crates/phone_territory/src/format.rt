@@ -231,7 +231,7 @@ impl Format {
     }
 
     /// The digits laid out by the template with its first group written by a rule, which is kept
-    /// for the numbers that follow where it is the first for no carrier. Refused only for memory.
+    /// for the numbers that follow where it is for no carrier. Refused only for memory.
     #[cold]
     #[inline(never)]
     fn lay_out_anew(
@@ -276,7 +276,7 @@ impl Format {
         }
     }
 
-    /// The template with its first group written by a rule, which is kept where it is the first.
+    /// The template with its first group written by a rule, which is kept for numbers that follow.
     /// Refused only for memory.
     #[cold]
     #[inline(never)]
