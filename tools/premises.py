@@ -1,5 +1,5 @@
-"""Whether numbers lie within the premises of the laws of libphonenumber's rules (phone_library_laws, phone_library_back, and of
-phone_util::dialled) and of what is typed (phone_typed), decided on the records of a table and not by reading a text. Names are
+"""Whether numbers lie within the premises of the laws of libphonenumber's rules (phone_library_laws, and of
+phone_engine::dialled) and of what is typed (phone_typed), decided on the records of a table and not by reading a text. Names are
 those of the definitions."""
 import functools
 import json
@@ -10,7 +10,7 @@ import unicodedata
 MOST_CHARACTERS = 250
 # The id of a code without a region.
 NO_REGION = "001"
-# How many digits of an extension each preferred prefix announces (phone_library_back::reach::prefixes).
+# How many digits of an extension each preferred prefix announces (phone_library_laws::reach::prefixes).
 ANNOUNCED = {" ext. ": 20, " Anexo ": 20, " x": 9, " int ": 9, " int. ": 9, "#": 9}
 PUNCTUATION = set("-x\u2010\u2011\u2012\u2013\u2014\u2015\u2212\u30fc\uff0d\uff0f \xa0\xad\u200b\u2060\u3000")
 PUNCTUATION |= set("()\uff08\uff09\uff3b\uff3d.[]/~\u2053\u223c\uff5e")

@@ -10,10 +10,10 @@ use Rattle.phone_print.specs.Texts.{laid_out_by}
 use Rattle.phone_values.specs.declared.rules.Rules.{Rules}
 use Rattle.phone_parts.proofs.PrintedInternational.{digit_nd}
 use Rattle.phonenumber.proofs.BackTexts.{IsUtf8-low}
-use Rattle.phone_library_back.proofs.Prefixes.{announced_by_default}
-use Rattle.phone_library_back.specs.Announced.{IsParameterIfAny}
-use Rattle.phone_library_back.specs.Layouts.{IsLaidOut, is_quiet}
-use Rattle.phone_library_back.specs.Plain.{IsLaidInternational, IsPlainInternational}
+use Rattle.phone_library_laws.proofs.Prefixes.{announced_by_default}
+use Rattle.phone_library_laws.specs.Announced.{IsParameterIfAny}
+use Rattle.phone_library_laws.specs.Layouts.{IsLaidOut, is_quiet}
+use Rattle.phone_library_laws.specs.Plain.{IsLaidInternational, IsPlainInternational}
 use Rattle.phone_library_laws.specs.Again.{IsSettled}
 use Rattle.headline_examples.proofs.Kept.{stripped_kept}
 use Rattle.headline_examples.proofs.Laid.{nz_laid_by}

@@ -7,12 +7,12 @@ ghost use Rattle.phone_read.specs.TransformRules.{rules_have_no_plus};
 ghost use Rattle.phone_library_laws.specs.Again.{IsSettled, IsSettledIfRead, e164_reading};
 ghost use Rattle.phone_library_laws.specs.Agreement.{IsOwnNumber, IsReadAlike, IsSettledAlike};
 ghost use Rattle.phone_library_laws.specs.Prefixes.{IsDialledAlike, IsHomeNumber};
-ghost use Rattle.phone_library_back.specs.Announced.{IsParameterIfAny};
-ghost use Rattle.phone_library_back.specs.Coded.{IsCoded, IsLeftAlone};
-ghost use Rattle.phone_library_back.specs.Keys.{IsReadByEither};
-ghost use Rattle.phone_library_back.specs.Plain.{IsLaidInternational, IsLaidRfc3966};
-ghost use Rattle.phone_library_back.specs.Plain.{IsPlainInternational, IsPlainNational};
-ghost use Rattle.phone_library_back.specs.Plain.{IsPlainRfc3966};
+ghost use Rattle.phone_library_laws.specs.Announced.{IsParameterIfAny};
+ghost use Rattle.phone_library_laws.specs.Coded.{IsCoded, IsLeftAlone};
+ghost use Rattle.phone_library_laws.specs.Keys.{IsReadByEither};
+ghost use Rattle.phone_library_laws.specs.Plain.{IsLaidInternational, IsLaidRfc3966};
+ghost use Rattle.phone_library_laws.specs.Plain.{IsPlainInternational, IsPlainNational};
+ghost use Rattle.phone_library_laws.specs.Plain.{IsPlainRfc3966};
 ghost use Rattle.headline_examples.specs.Samples.{am_by_anexo, bare_ad, db_b, db_d, db_e};
 ghost use Rattle.headline_examples.specs.Samples.{dialled_at_home, extended, number};
 

@@ -6,8 +6,8 @@ ghost use Rattle.phone_find.specs.Alone.{IsShaped};
 ghost use Rattle.phone_find.specs.Leniencies.{suffices};
 ghost use Rattle.phone_values.specs.declared.rules.Rules.TheVariants as rules;
 ghost use Rattle.phone_find.specs.declared.leniency.Leniency.TheVariants as leniency;
-ghost use Rattle.phone_util.specs.Back.{IsAfterPlus, IsAfterPrefix, IsPlainDialled};
-ghost use Rattle.phone_util.specs.LibraryBack.{IsSettledDialled};
+ghost use Rattle.phone_engine.specs.Back.{IsAfterPlus, IsAfterPrefix, IsPlainDialled};
+ghost use Rattle.phone_engine.specs.LibraryBack.{IsSettledDialled};
 ghost use Rattle.headline_examples.specs.Samples.{db_b, db_kp, extended, number, nz};
 
 /// A number of New Zealand that is dialled from the United States, behind `011`; for

@@ -7,7 +7,7 @@ ghost use Rattle.phone_plans.specs.CodeLookUps.{first_of, territories};
 ghost use Rattle.phone_read.specs.Verdicts.{general_lengths};
 ghost use Rattle.phone_short.specs.Regions.{is_emergency, is_valid_short, short_kind};
 ghost use Rattle.phone_short.specs.declared.kind.ShortKind.TheVariants as kind;
-ghost use Rattle.phone_util.specs.Possibilities.{has_listed_kind};
+ghost use Rattle.phone_engine.specs.Possibilities.{has_listed_kind};
 ghost use Rattle.phonenumber.specs.Queries.{is_valid};
 ghost use Rattle.headline_examples.specs.Samples.{db_b, db_short, free_phone, number};
 

@@ -6,13 +6,13 @@ use Rattle.phone_values.specs.declared.rules.Rules.{Rules}
 use Rattle.phone_places.specs.Maps.{code_digits}
 use Rattle.phone_questions.specs.Groups.{area_length}
 use Rattle.phone_records.specs.declared.loader.Metadata.{Metadata}
-use Rattle.phone_util.specs.Possibilities.{possibility_of}
-use Rattle.phone_util.specs.declared.possibilities.Possibility.{Possibility}
-use Rattle.phone_util.specs.declared.possibilities.Possibility.TheVariants.{Possible}
-use Rattle.phone_util.specs.declared.possibilities.Possibility.TheVariants.{PossibleLocally}
-use Rattle.phone_util.specs.declared.possibilities.Possibility.TheVariants.{TooLong, TooShort}
-use Rattle.phone_util.specs.declared.possibilities.Possibility.TheVariants.{UnknownCode}
-use Rattle.phone_util.specs.declared.possibilities.Possibility.TheVariants.{WrongLength}
+use Rattle.phone_engine.specs.Possibilities.{possibility_of}
+use Rattle.phone_engine.specs.declared.possibilities.Possibility.{Possibility}
+use Rattle.phone_engine.specs.declared.possibilities.Possibility.TheVariants.{Possible}
+use Rattle.phone_engine.specs.declared.possibilities.Possibility.TheVariants.{PossibleLocally}
+use Rattle.phone_engine.specs.declared.possibilities.Possibility.TheVariants.{TooLong, TooShort}
+use Rattle.phone_engine.specs.declared.possibilities.Possibility.TheVariants.{UnknownCode}
+use Rattle.phone_engine.specs.declared.possibilities.Possibility.TheVariants.{WrongLength}
 use Rattle.phone_answers.specs.declared.parts.Part.{Part}
 use Rattle.phone_answers.specs.declared.parts.Part.TheVariants as part
 use Rattle.phone_answers.specs.declared.parts.Part.TheVariants.{AreaCode, CallingCode, Extension}

@@ -7,11 +7,10 @@ ghost use Rattle.phone_answers.specs.Parts.{area_code, part_told, possibility_to
 ghost use Rattle.phone_answers.specs.Parts.{possibility_word};
 
 use crate::finds::extension_of;
-use phone_engine::Engine;
+use phone_engine::{Engine, Possibility, possibility_of};
 use phone_plans::Plans;
 use phone_print::written::text_of_value;
 use phone_questions::area_length;
-use phone_util::{Possibility, possibility_of};
 use phonenumber::PhoneNumber;
 use std::alloc::{AllocError, Global};
 use std::borrow::CowStr;

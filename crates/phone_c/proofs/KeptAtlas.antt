@@ -1,7 +1,7 @@
 -- The handle of an atlas that nothing wrote is as it was.
 use Rattle.std.proofs.Common.{refl}
-use Rattle.phone_c_places.specs.Atlases.{IsAtlasKept}
-use Rattle.phone_c_places.specs.declared.handle.AtlasHandle.{AtlasHandle}
+use Rattle.phone_c.specs.Atlases.{IsAtlasKept}
+use Rattle.phone_c.specs.declared.places.handle.AtlasHandle.{AtlasHandle}
 use Rattle.phone_c.proofs.Kept.{in_block}
 
 pub kept : (h : AtlasHandle) → IsAtlasKept h h

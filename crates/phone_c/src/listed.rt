@@ -1,6 +1,6 @@
 //! The calls that list what a database has.
 ghost use Rattle.std.specs.Prelude.{◌≡◌, ◌↔◌};
-ghost use Rattle.phone_util.specs.Listed.{listed_codes};
+ghost use Rattle.phone_engine.specs.Listed.{listed_codes};
 ghost use Rattle.phone_c_base.specs.Buffers.{IsTooLong, IsWritten};
 ghost use Rattle.phone_c_base.specs.Handles.{IsClosed, IsKept};
 ghost use Rattle.phone_c_base.specs.Listed.{region_names};

@@ -5,21 +5,29 @@ ghost use Rattle.phone_c_base.specs.Buffers.{IsTooLongA, IsWrittenA};
 ghost use Rattle.phone_c_base.specs.Handles.{IsClosed, IsKept};
 ghost use Rattle.phone_c_base.specs.Numbers.{AreNoNumber};
 ghost use Rattle.phone_c_base.specs.PrefixTables.{IsTableClosed, IsTableKept};
-ghost use Rattle.phone_c_places.specs.Atlases.{AreTextsOf, IsAtlasClosed, IsAtlasKept};
-ghost use Rattle.phone_c_places.specs.Atlases.{IsAtlasOpenOf, IsAtlasRefused};
-ghost use Rattle.phone_c_places.specs.Places.{AreZonesOf, IsCarrierOf, IsCountryOf};
-ghost use Rattle.phone_c_places.specs.Places.{IsDescriptionOf, IsSafeCarrierOf};
+ghost use Rattle.phone_c.specs.Atlases.{AreTextsOf, IsAtlasClosed, IsAtlasKept};
+ghost use Rattle.phone_c.specs.Atlases.{IsAtlasOpenOf, IsAtlasRefused};
+ghost use Rattle.phone_c.specs.Places.{AreZonesOf, IsCarrierOf, IsCountryOf};
+ghost use Rattle.phone_c.specs.Places.{IsDescriptionOf, IsSafeCarrierOf};
 
+pub mod carriers;
+pub mod country;
+pub mod descriptions;
+pub mod handle;
+pub mod opening;
+pub mod owned;
+pub mod zones;
+
+use crate::places::carriers::{carrier, safe_carrier};
+use crate::places::country::country_name;
+use crate::places::descriptions::description;
+use crate::places::handle::{AtlasHandle, close_atlas, put_atlas};
+use crate::places::opening::open_atlas;
+use crate::places::zones::time_zones;
 use phone_c_base::handle::{Handle, put, take};
 use phone_c_base::number::Number;
 use phone_c_base::status::{BAD_NUMBER, CLOSED, MEMORY, NOT_UTF8, OK, TOO_SMALL};
 use phone_c_base::table::PrefixTable;
-use phone_c_places::carriers::{carrier, safe_carrier};
-use phone_c_places::country::country_name;
-use phone_c_places::descriptions::description;
-use phone_c_places::handle::{AtlasHandle, close_atlas, put_atlas};
-use phone_c_places::opening::open_atlas;
-use phone_c_places::zones::time_zones;
 use std::alloc::Global;
 
 /// Opens an atlas: the tables of texts that a locale asks, as `de`, `zh_TW` or `sr-Latn-RS`. The

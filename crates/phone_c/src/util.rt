@@ -2,7 +2,7 @@
 //! what an example number is, and how a number is dialled.
 ghost use Rattle.std.specs.Prelude.{◌≡◌, ◌⊎◌, ◌↔◌, ◌<◌, None, IsUtf8};
 ghost use Rattle.phone_values.specs.Ids.{id_of};
-ghost use Rattle.phone_util.specs.declared.dialled.DialError.TheVariants as dial;
+ghost use Rattle.phone_engine.specs.declared.dialled.DialError.TheVariants as dial;
 ghost use Rattle.phone_c_base.specs.Buffers.{IsTooLongA, IsWrittenA};
 ghost use Rattle.phone_c_base.specs.Comparisons.{AreAlike, AreRefusedAs};
 ghost use Rattle.phone_c_base.specs.Dialled.{IsDialled, IsUndialled};
@@ -28,7 +28,7 @@ use phone_c_base::status::{
 };
 use std::alloc::Global;
 
-/// Tells what the count of a number's digits says, as `phone_util::possibility_of` does: 0
+/// Tells what the count of a number's digits says, as `phone_engine::possibility_of` does: 0
 /// `Possible`, 1 `PossibleLocally`, 2 `TooShort`, 3 `TooLong`, 4 `WrongLength`, 5 `UnknownCode`.
 /// The number's texts are not looked at.
 ///
@@ -58,7 +58,7 @@ pub extern "C" fn phone_possibility(
     status
 }
 
-/// Tells the same of a text, perhaps not yet whole, as `phone_util::possibility_of_text` does,
+/// Tells the same of a text, perhaps not yet whole, as `phone_engine::possibility_of_text` does,
 /// under the hint that `phone_report` takes: a text that is refused for its length or for its
 /// calling code has an answer.
 ///
@@ -98,7 +98,7 @@ pub extern "C" fn phone_text_possibility(
 }
 
 /// Tells whether two texts are one number, each perhaps without its calling code, as
-/// `phone_util::compare_texts` does: 0 `Exact`, 1 `Number`, 2 `National`, 3 `End`, 4 `Different`.
+/// `phone_engine::compare_texts` does: 0 `Exact`, 1 `Number`, 2 `National`, 3 `End`, 4 `Different`.
 ///
 /// `CLOSED` exactly where the handle is closed, else `NOT_UTF8` exactly where one of the texts
 /// isn't UTF-8; 1 to 6: the number of the refusal of the first text, else of the second; `MEMORY`.
@@ -130,8 +130,8 @@ pub extern "C" fn phone_compare(
     status
 }
 
-/// Writes how a number is dialled from a region, as `phone_util::dialled::dialled_from` prints it.
-/// The number is given as `phone_format` takes it, the region by its id, as `NZ`.
+/// Writes how a number is dialled from a region, as `phone_engine::dialled::dialled_from` prints
+/// it. The number is given as `phone_format` takes it, the region by its id, as `NZ`.
 ///
 /// `OK`, `TOO_SMALL`, `CLOSED` and `MEMORY` as `phone_report` has them; else `NO_REGION` exactly
 /// where the region is no region's id, then `BAD_NUMBER` exactly where plain numbers and bytes are
@@ -180,8 +180,8 @@ pub extern "C" fn phone_dialled_from(
 }
 
 /// Reads the example number of a region and a kind, with the region as hint, as
-/// `phone_util::example` reads it: into plain numbers, and its texts, as `phone_parse` writes them,
-/// into a buffer. The region is given by its id, as `NZ`, the kind by the number by which
+/// `phone_engine::example` reads it: into plain numbers, and its texts, as `phone_parse` writes
+/// them, into a buffer. The region is given by its id, as `NZ`, the kind by the number by which
 /// `phone_kind` tells it.
 ///
 /// `CLOSED` exactly where the handle is closed, else `NO_REGION` exactly where the region is no

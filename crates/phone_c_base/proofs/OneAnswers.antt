@@ -14,7 +14,7 @@ use Rattle.phone_engine.specs.Facts.{is_valid_by, kind_by, printed_as, region_by
 use Rattle.phone_values.specs.declared.rules.Rules.{Rules}
 use Rattle.phone_values.specs.declared.rules.Rules.TheVariants.{Library, Crate}
 use Rattle.phone_records.specs.declared.loader.Metadata.{Metadata}
-use Rattle.phone_util.specs.Possibilities.{possibility_of}
+use Rattle.phone_engine.specs.Possibilities.{possibility_of}
 use Rattle.phone_library.specs.Printed.{printed_by}
 use Rattle.phone_c_base.specs.Answers.{IsKey, IsKind, IsPrinted, IsRegion, IsUnprinted, IsValidity}
 use Rattle.phone_c_base.specs.Answers.{kind_number, mode_number}

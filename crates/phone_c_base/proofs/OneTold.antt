@@ -12,10 +12,10 @@ use Rattle.phone_engine.specs.Readings.{ReadsBy}
 use Rattle.phone_values.specs.declared.rules.Rules.{Rules}
 use Rattle.phone_find.proofs.Ones
 use Rattle.phone_find.specs.declared.leniency.Leniency.{Leniency}
-use Rattle.phone_util.proofs.Taken.{answer_same}
-use Rattle.phone_util.specs.Dialled.{dialled_text}
-use Rattle.phone_util.specs.Listed.{example_text}
-use Rattle.phone_util.specs.Possibilities.{possibility_read}
+use Rattle.phone_engine.proofs.Taken.{answer_same}
+use Rattle.phone_engine.specs.Dialled.{dialled_text}
+use Rattle.phone_engine.specs.Listed.{example_text}
+use Rattle.phone_engine.specs.Possibilities.{possibility_read}
 use Rattle.phone_c_base.proofs.OneAnswers.{one_number}
 use Rattle.phone_c_base.specs.Comparisons.{AreAlike, sameness_number}
 use Rattle.phone_c_base.specs.Dialled.{IsDialled}

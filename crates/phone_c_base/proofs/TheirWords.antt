@@ -11,10 +11,10 @@ use Rattle.phone_values.specs.declared.kind.«Type».{«Type»}
 use Rattle.phone_short.specs.Costs.{cost_word}
 use Rattle.phone_short.specs.declared.rates.Cost.TheVariants as cost
 use Rattle.phone_short.specs.declared.rates.Cost.{Cost}
-use Rattle.phone_util.specs.declared.possibilities.Possibility.TheVariants as possibility
-use Rattle.phone_util.specs.declared.possibilities.Possibility.{Possibility}
-use Rattle.phone_util.specs.declared.sameness.Sameness.TheVariants as sameness
-use Rattle.phone_util.specs.declared.sameness.Sameness.{Sameness}
+use Rattle.phone_engine.specs.declared.possibilities.Possibility.TheVariants as possibility
+use Rattle.phone_engine.specs.declared.possibilities.Possibility.{Possibility}
+use Rattle.phone_engine.specs.declared.sameness.Sameness.TheVariants as sameness
+use Rattle.phone_engine.specs.declared.sameness.Sameness.{Sameness}
 use Rattle.phone_engine.specs.Words.{source_word}
 use Rattle.phone_c_base.specs.Answers.{kind_number}
 use Rattle.phone_c_base.specs.Comparisons.{sameness_number}

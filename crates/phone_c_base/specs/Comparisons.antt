@@ -4,10 +4,10 @@ use Rattle.phone_values.specs.Refusals.{refusal_number}
 use Rattle.phone_values.specs.declared.error.ParseError.{ParseError}
 use Rattle.phone_records.specs.declared.loader.Metadata.{Metadata}
 use Rattle.phone_values.specs.declared.rules.Rules.{Rules}
-use Rattle.phone_util.specs.Sameness.{IsAnswer}
-use Rattle.phone_util.specs.declared.sameness.Sameness.{Sameness}
-use Rattle.phone_util.specs.declared.sameness.Sameness.TheVariants.{Exact, Number, National, End}
-use Rattle.phone_util.specs.declared.sameness.Sameness.TheVariants.{Different}
+use Rattle.phone_engine.specs.Sameness.{IsAnswer}
+use Rattle.phone_engine.specs.declared.sameness.Sameness.{Sameness}
+use Rattle.phone_engine.specs.declared.sameness.Sameness.TheVariants.{Exact, Number, National, End}
+use Rattle.phone_engine.specs.declared.sameness.Sameness.TheVariants.{Different}
 
 -- how like two numbers are, by its number
 abbrev pub sameness_number : Sameness → ℕ

@@ -3,8 +3,8 @@ use Rattle.std.specs.Prelude.{◌≡◌, ℕ, List, Result, Ok, Err, IsSomeAnd}
 use Rattle.phone_values.specs.Ids.{id_of}
 use Rattle.phone_values.specs.declared.reading.Reading.{Reading}
 use Rattle.phone_records.specs.declared.loader.Metadata.{Metadata}
-use Rattle.phone_util.specs.Dialled.{dialled_text}
-use Rattle.phone_util.specs.declared.dialled.DialError.{DialError}
+use Rattle.phone_engine.specs.Dialled.{dialled_text}
+use Rattle.phone_engine.specs.declared.dialled.DialError.{DialError}
 use Rattle.phone_c_base.specs.Numbers.{IsNumber}
 use Rattle.phone_c_base.specs.declared.number.Number as plain
 

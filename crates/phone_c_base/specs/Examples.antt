@@ -8,7 +8,7 @@ use Rattle.phone_values.specs.declared.reading.Reading.{Reading}
 use Rattle.phone_records.specs.declared.loader.Metadata.{Metadata}
 use Rattle.phone_engine.specs.Readings.{ReadsBy}
 use Rattle.phone_values.specs.declared.rules.Rules.{Rules}
-use Rattle.phone_util.specs.Listed.{example_text}
+use Rattle.phone_engine.specs.Listed.{example_text}
 use Rattle.phone_c_base.specs.Buffers.{IsTooLong, IsWritten}
 use Rattle.phone_c_base.specs.Kinds.{kind_of}
 use Rattle.phone_c_base.specs.Numbers.{IsNumber, texts_of}

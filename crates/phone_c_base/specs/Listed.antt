@@ -3,7 +3,7 @@ use Rattle.std.specs.Prelude.{ℕ, List}
 use Rattle.std.specs.List.{flat_map}
 use Rattle.phone_values.specs.Ids.{name}
 use Rattle.phone_records.specs.declared.loader.Metadata.{Metadata}
-use Rattle.phone_util.specs.Listed.{listed_regions}
+use Rattle.phone_engine.specs.Listed.{listed_regions}
 
 -- the ids of the regions that have a territory, one behind the other
 abbrev pub region_names : List Metadata → List ℕ

@@ -7,13 +7,13 @@ use Rattle.phone_values.specs.declared.reading.Reading.{Reading}
 use Rattle.phone_records.specs.declared.loader.Metadata.{Metadata}
 use Rattle.phone_engine.specs.Readings.{ReadsBy}
 use Rattle.phone_values.specs.declared.rules.Rules.{Rules}
-use Rattle.phone_util.specs.Possibilities.{possibility_of, possibility_read}
-use Rattle.phone_util.specs.declared.possibilities.Possibility.{Possibility}
-use Rattle.phone_util.specs.declared.possibilities.Possibility.TheVariants.{Possible}
-use Rattle.phone_util.specs.declared.possibilities.Possibility.TheVariants.{PossibleLocally}
-use Rattle.phone_util.specs.declared.possibilities.Possibility.TheVariants.{TooShort, TooLong}
-use Rattle.phone_util.specs.declared.possibilities.Possibility.TheVariants.{WrongLength}
-use Rattle.phone_util.specs.declared.possibilities.Possibility.TheVariants.{UnknownCode}
+use Rattle.phone_engine.specs.Possibilities.{possibility_of, possibility_read}
+use Rattle.phone_engine.specs.declared.possibilities.Possibility.{Possibility}
+use Rattle.phone_engine.specs.declared.possibilities.Possibility.TheVariants.{Possible}
+use Rattle.phone_engine.specs.declared.possibilities.Possibility.TheVariants.{PossibleLocally}
+use Rattle.phone_engine.specs.declared.possibilities.Possibility.TheVariants.{TooShort, TooLong}
+use Rattle.phone_engine.specs.declared.possibilities.Possibility.TheVariants.{WrongLength}
+use Rattle.phone_engine.specs.declared.possibilities.Possibility.TheVariants.{UnknownCode}
 use Rattle.phone_c_base.specs.Numbers.{HasNumbers}
 use Rattle.phone_c_base.specs.declared.number.Number as plain
 

@@ -3,15 +3,15 @@ use Rattle.std.specs.Prelude.{ℕ, ◌==◌, if◌then◌else◌, List, [], ◌�
 use Rattle.std.specs.Prelude.{map, option_map}
 use Rattle.std.specs.Borrow.{Bor}
 use Rattle.std.specs.List.{find}
-use Rattle.phone_util.specs.declared.possibilities.Possibility.{Possibility}
-use Rattle.phone_util.specs.declared.possibilities.Possibility.TheVariants.{Possible}
-use Rattle.phone_util.specs.declared.possibilities.Possibility.TheVariants.{PossibleLocally}
-use Rattle.phone_util.specs.declared.possibilities.Possibility.TheVariants.{TooShort, TooLong}
-use Rattle.phone_util.specs.declared.possibilities.Possibility.TheVariants.{WrongLength}
-use Rattle.phone_util.specs.declared.possibilities.Possibility.TheVariants.{UnknownCode}
-use Rattle.phone_util.specs.declared.sameness.Sameness.{Sameness}
-use Rattle.phone_util.specs.declared.sameness.Sameness.TheVariants.{Exact, Number, National, End}
-use Rattle.phone_util.specs.declared.sameness.Sameness.TheVariants.{Different}
+use Rattle.phone_engine.specs.declared.possibilities.Possibility.{Possibility}
+use Rattle.phone_engine.specs.declared.possibilities.Possibility.TheVariants.{Possible}
+use Rattle.phone_engine.specs.declared.possibilities.Possibility.TheVariants.{PossibleLocally}
+use Rattle.phone_engine.specs.declared.possibilities.Possibility.TheVariants.{TooShort, TooLong}
+use Rattle.phone_engine.specs.declared.possibilities.Possibility.TheVariants.{WrongLength}
+use Rattle.phone_engine.specs.declared.possibilities.Possibility.TheVariants.{UnknownCode}
+use Rattle.phone_engine.specs.declared.sameness.Sameness.{Sameness}
+use Rattle.phone_engine.specs.declared.sameness.Sameness.TheVariants.{Exact, Number, National, End}
+use Rattle.phone_engine.specs.declared.sameness.Sameness.TheVariants.{Different}
 
 -- the word in the first row of a table that has this number; none where no row has it
 abbrev pub word_in : List (ℕ × List ℕ) → ℕ → Option (List ℕ)

@@ -3,8 +3,7 @@ ghost use Rattle.std.specs.Prelude.{◌≡◌, ◌⊎◌, ◌↔◌, IsUtf8};
 ghost use Rattle.phone_c_base.specs.Comparisons.{AreAlike, AreRefusedAs, sameness_number};
 
 use crate::status::{MEMORY, NOT_UTF8, OK};
-use phone_engine::Engine;
-use phone_util::{Sameness, compare_texts};
+use phone_engine::{Engine, Sameness, compare_texts};
 
 /// How like two numbers are, by its number.
 fn sameness_number(sameness: Sameness) -> u32

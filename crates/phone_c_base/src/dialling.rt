@@ -1,7 +1,7 @@
 //! How a number that is given as plain numbers is dialled from a region.
 ghost use Rattle.std.specs.Prelude.{◌≡◌, ◌↔◌, None};
 ghost use Rattle.phone_values.specs.Ids.{id_of};
-ghost use Rattle.phone_util.specs.declared.dialled.DialError.TheVariants as dial;
+ghost use Rattle.phone_engine.specs.declared.dialled.DialError.TheVariants as dial;
 ghost use Rattle.phone_c_base.specs.Buffers.{IsTooLongA, IsWrittenA};
 ghost use Rattle.phone_c_base.specs.Dialled.{IsDialled, IsUndialled};
 ghost use Rattle.phone_c_base.specs.Numbers.{AreNoNumber};
@@ -10,8 +10,8 @@ use crate::buffer::give;
 use crate::hint::id_of;
 use crate::number::{Number, to_phone_number};
 use crate::status::{BAD_NUMBER, MEMORY, NO_REGION, NO_TERRITORY, OK, TOO_SMALL, UNKNOWN_CODE};
+use phone_engine::dialled::{DialError, dialled_from};
 use phone_plans::Plans;
-use phone_util::dialled::{DialError, dialled_from};
 
 /// How a number is dialled from a region, in a buffer.
 pub fn dialled(

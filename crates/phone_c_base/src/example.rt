@@ -44,7 +44,7 @@ pub fn example(
     let Some(kind) = kind_of(kind) else {
         return NO_KIND;
     };
-    match phone_util::example(engine, region, kind) {
+    match phone_engine::example(engine, region, kind) {
         Ok(Some(read)) => write_number(&read, number, out, wrote),
         Ok(None) => NO_EXAMPLE,
         Err(error) => u32::from(error.number()),

@@ -21,7 +21,7 @@ pub mod parse;
 pub mod possibility;
 pub mod prefixes;
 pub mod print;
-mod raw_box;
+pub mod raw_box;
 pub mod report;
 pub mod rules;
 pub mod shared;

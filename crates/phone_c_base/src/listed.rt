@@ -2,7 +2,7 @@
 ghost use Rattle.std.specs.Prelude.{◌≡◌, IfOk};
 ghost use Rattle.std.specs.List.{flat_map};
 ghost use Rattle.phone_values.specs.Ids.{name};
-ghost use Rattle.phone_util.specs.Listed.{listed_codes};
+ghost use Rattle.phone_engine.specs.Listed.{listed_codes};
 ghost use Rattle.phone_c_base.specs.Buffers.{IsTooLong, IsWritten};
 ghost use Rattle.phone_c_base.specs.Listed.{region_names};
 
@@ -23,7 +23,7 @@ pub fn regions(database: &Plans, out: &mut [u8], wrote: &mut usize) -> u32
     ensures no_length { ¬ (result ≡ OK) → ¬ (result ≡ TOO_SMALL) → wrote.new ≡ 0 }
 {
     *wrote = 0;
-    let Ok(ids) = phone_util::regions(database) else {
+    let Ok(ids) = phone_engine::regions(database) else {
         return MEMORY;
     };
     match names_of(database.allocator(), ids.as_slice()) {
@@ -54,7 +54,7 @@ pub fn codes(database: &Plans, out: &mut [u16], wrote: &mut usize) -> u32
     ensures no_length { ¬ (result ≡ OK) → ¬ (result ≡ TOO_SMALL) → wrote.new ≡ 0 }
 {
     *wrote = 0;
-    match phone_util::codes(database) {
+    match phone_engine::codes(database) {
         Ok(codes) => give(codes.as_slice(), out, wrote),
         Err(_) => MEMORY,
     }

@@ -6,8 +6,7 @@ ghost use Rattle.phone_c_base.specs.Possibilities.{IsTextPossibility, possibilit
 
 use crate::number::{Number, bare};
 use crate::status::{BAD_NUMBER, MEMORY, NOT_UTF8, OK};
-use phone_engine::Engine;
-use phone_util::{Possibility, possibility_of, possibility_of_text};
+use phone_engine::{Engine, Possibility, possibility_of, possibility_of_text};
 
 /// What a length says, by its number.
 fn possibility_number(possibility: Possibility) -> u32

@@ -6,10 +6,10 @@ use std::alloc::Allocator;
 use std::marker::Model;
 
 /// A pointer that owns what a box at it would own. Contracts see the value behind it.
-pub(crate) struct RawBox<T, A: Allocator> {
-    pub(crate) at: *mut T,
-    pub(crate) alloc: A,
-    pub(crate) ghost value: { T },
+pub struct RawBox<T, A: Allocator> {
+    pub at: *mut T,
+    pub alloc: A,
+    pub ghost value: { T },
 }
 
 impl<T, A: Allocator> Model for RawBox<T, A> {
@@ -18,7 +18,7 @@ impl<T, A: Allocator> Model for RawBox<T, A> {
 
 impl<T, A: Allocator> RawBox<T, A> {
     /// The pointer of a box.
-    pub(crate) fn of(whole: Box<T, A>) -> RawBox<T, A>
+    pub fn of(whole: Box<T, A>) -> RawBox<T, A>
     where
         T: Drop,
         ensures { result.value ≡ whole.value }
@@ -28,7 +28,7 @@ impl<T, A: Allocator> RawBox<T, A> {
     }
 
     /// The box at the pointer.
-    pub(crate) fn into_box(self) -> Box<T, A>
+    pub fn into_box(self) -> Box<T, A>
         ensures { result.value ≡ self.value }
     {
         let RawBox { at, alloc } = self;

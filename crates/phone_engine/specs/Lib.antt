@@ -1,6 +1,13 @@
+pub mod Back
+pub mod Dialled
 pub mod Facts
+pub mod LibraryBack
+pub mod Listed
+pub mod Possibilities
 pub mod Programs
 pub mod Readings
 pub mod ReportLines
 pub mod Reports
+pub mod Sameness
+pub mod Sides
 pub mod Words

@@ -16,8 +16,8 @@ use Rattle.phone_values.specs.Numbers.{text_of}
 use Rattle.phone_values.specs.declared.mode.Mode.TheVariants.{International}
 use Rattle.phone_plans.specs.CodeLookUps.{first_of, territories}
 use Rattle.phonenumber.specs.Bounds.{IsBounded}
-use Rattle.phone_util.specs.Possibilities.{possibility_under}
-use Rattle.phone_util.specs.declared.possibilities.Possibility.TheVariants.{UnknownCode}
+use Rattle.phone_engine.specs.Possibilities.{possibility_under}
+use Rattle.phone_engine.specs.declared.possibilities.Possibility.TheVariants.{UnknownCode}
 use Rattle.phone_print.specs.Texts.{extension_part, international_text, laid_out, text_by}
 use Rattle.phonenumber.specs.Printed.{printed}
 use Rattle.phone_parts.proofs.AnnouncedParts.{announced_parts}

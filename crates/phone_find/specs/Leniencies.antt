@@ -1,8 +1,8 @@
 -- How strictly the numbers of a text are judged.
 use Rattle.std.specs.Prelude.{ℕ, ◌&&◌, Bool, true, false, List}
-use Rattle.phone_util.specs.Possibilities.{possibility_of}
-use Rattle.phone_util.specs.declared.possibilities.Possibility.{Possibility}
-use Rattle.phone_util.specs.declared.possibilities.Possibility.TheVariants as possibility
+use Rattle.phone_engine.specs.Possibilities.{possibility_of}
+use Rattle.phone_engine.specs.declared.possibilities.Possibility.{Possibility}
+use Rattle.phone_engine.specs.declared.possibilities.Possibility.TheVariants as possibility
 use Rattle.phone_values.specs.declared.reading.Reading.{Reading}
 use Rattle.phone_records.specs.declared.loader.Metadata.{Metadata}
 use Rattle.phone_engine.specs.Facts.{is_valid_by}

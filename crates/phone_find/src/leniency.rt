@@ -2,9 +2,8 @@
 ghost use Rattle.std.specs.Prelude.{◌≡◌, IfOk, chars};
 ghost use Rattle.phone_find.specs.Leniencies.{has_prefix_by, is_possible, suffices, suffices_in};
 
-use phone_engine::{Engine, Rules};
+use phone_engine::{Engine, Possibility, Rules, possibility_of};
 use phone_matches::has_prefix;
-use phone_util::{Possibility, possibility_of};
 use phonenumber::PhoneNumber;
 use std::alloc::AllocError;
 

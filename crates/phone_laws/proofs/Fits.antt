@@ -16,9 +16,9 @@ use Rattle.phone_values.specs.declared.reading.Reading.{Reading}
 use Rattle.phone_library.specs.Facts.{kind_of_number, region_of_number}
 use Rattle.phone_library.specs.Kinds.{kind_in}
 use Rattle.phone_library.specs.Readings.{ReadsByLibrary, stripped}
-use Rattle.phone_library_back.proofs.DialledInside.{inside, read_inside, reads_inside, unsigned}
-use Rattle.phone_library_back.proofs.ToldAlike.{inside_alike, told_alike}
-use Rattle.phone_library_back.specs.Told.{AreToldAlike}
+use Rattle.phone_library_laws.proofs.DialledInside.{inside, read_inside, reads_inside, unsigned}
+use Rattle.phone_library_laws.proofs.ToldAlike.{inside_alike, told_alike}
+use Rattle.phone_library_laws.specs.Told.{AreToldAlike}
 use Rattle.phone_library_text.proofs.PlainWritten.{national_written}
 use Rattle.phone_plans.specs.Records as plans
 use Rattle.phone_read.specs.Hints.{hinted}

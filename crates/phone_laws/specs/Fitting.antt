@@ -7,7 +7,7 @@ use Rattle.phone_values.specs.declared.kind.«Type».{«Type»}
 use Rattle.phone_values.specs.declared.reading.Reading.{Reading}
 use Rattle.phone_library.specs.Facts.{territory_of_number}
 use Rattle.phone_library.specs.Kinds.{kind_in}
-use Rattle.phone_library_back.specs.Plain.{IsDialledInside}
+use Rattle.phone_library_laws.specs.Plain.{IsDialledInside}
 use Rattle.phone_read.specs.Hints.{hinted}
 use Rattle.phone_records.specs.declared.loader.Metadata.{Metadata}
 use Rattle.phone_territory.specs.Records.{code_of}

@@ -6,7 +6,7 @@ ghost use Rattle.phone_values.specs.declared.country.Id.{Id};
 ghost use Rattle.phone_values.specs.declared.reading.Reading.{Reading};
 ghost use Rattle.phone_library.specs.Facts.{is_valid_number};
 ghost use Rattle.phone_library.specs.Readings.{ReadsByLibrary};
-ghost use Rattle.phone_library_back.specs.Told.{AreToldAlike};
+ghost use Rattle.phone_library_laws.specs.Told.{AreToldAlike};
 ghost use Rattle.phone_library_laws.specs.Again.{IsSettled};
 ghost use Rattle.phone_plans.specs.CodeLookUps.{first_of, territories};
 ghost use Rattle.phone_print.specs.Texts.{e164_text};
@@ -16,7 +16,7 @@ ghost use Rattle.phone_questions.specs.Belonging.{is_dialled_from_abroad};
 ghost use Rattle.phone_dialling.specs.Mobile.{mobile_text};
 ghost use Rattle.phone_dialling.specs.Original.{IsOriginal, dialled_of};
 
-use phone_library_back::told;
+use phone_library_laws::told;
 
 /// Of a number that is printed as it was written a telephone dials what it dials of that text: no
 /// digit is added, and none is lost.

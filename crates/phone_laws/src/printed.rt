@@ -3,9 +3,9 @@ ghost use Rattle.std.specs.Prelude.{◌≡◌, ◌<◌, ◌∷◌, ◌++◌, [],
 ghost use Rattle.std.specs.Prelude.{chars, codes, true};
 ghost use Rattle.phone_library.specs.Facts.{is_valid_number};
 ghost use Rattle.phone_library.specs.Readings.{stripped};
-ghost use Rattle.phone_library_back.specs.Plain.{IsPlainInternational, IsPlainNational};
-ghost use Rattle.phone_library_back.specs.Plain.{IsPlainRfc3966};
-ghost use Rattle.phone_library_back.specs.Printed.{inside_reading, printed_reading, uncarried};
+ghost use Rattle.phone_library_laws.specs.Plain.{IsPlainInternational, IsPlainNational};
+ghost use Rattle.phone_library_laws.specs.Plain.{IsPlainRfc3966};
+ghost use Rattle.phone_library_laws.specs.Printed.{inside_reading, printed_reading, uncarried};
 ghost use Rattle.phone_library_laws.specs.Again.{IsSettled, e164_reading};
 ghost use Rattle.phone_library_text.specs.NumberTexts.{context_name};
 ghost use Rattle.phone_library_text.specs.Places.{parted};
@@ -24,10 +24,10 @@ ghost use Rattle.phone_values.specs.declared.reading.Reading.{Reading};
 ghost use Rattle.phone_library.specs.Printed.{printed_by};
 ghost use Rattle.phone_values.specs.declared.rules.Rules.{Rules};
 
-use phone_library_back::international::international_again;
-use phone_library_back::national::national_again;
-use phone_library_back::rfc3966::rfc3966_again;
 use phone_library_laws::again::e164_again;
+use phone_library_laws::international::international_again;
+use phone_library_laws::national::national_again;
+use phone_library_laws::rfc3966::rfc3966_again;
 use phone_matches::laws::{found_behind_scheme, found_between_spaces};
 
 /// The E.164 text of a valid number, between two spaces, is found under any hint, at its place, and

@@ -1,5 +1,12 @@
 pub mod Again
 pub mod Agreement
+pub mod Announced
+pub mod Coded
+pub mod Keys
+pub mod Layouts
 pub mod Lengths
+pub mod Plain
 pub mod Prefixes
+pub mod Printed
 pub mod Signs
+pub mod Told

@@ -1,10 +1,9 @@
 //! Questions on example numbers.
 use crate::given::{parts, region};
 use anyhow::Result;
-use phone_engine::{Engine, Rules};
+use phone_engine::{Engine, Rules, example};
 use phone_further::{example_of_code, example_of_kind, invalid_example};
 use phone_meta::Database;
-use phone_util::example;
 use phone_values::Type;
 use phonenumber::PhoneNumber;
 use replay_base::table::Row;

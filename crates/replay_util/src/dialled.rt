@@ -2,8 +2,8 @@
 //! whether it lies within the premises of being read back there.
 use crate::premises::{how_told, is_within};
 use anyhow::{Result, anyhow};
+use phone_engine::dialled::{DialError, dialled_from};
 use phone_meta::{Database, Metadata};
-use phone_util::dialled::{DialError, dialled_from};
 use phone_values::country::Id;
 use phonenumber::PhoneNumber;
 use replay_base::marks::{around, begin};

@@ -1,9 +1,8 @@
 //! The calls that ask what a database lists: its regions, its calling codes, and example numbers.
 use crate::by_rules::{by_rules, without_hint};
 use anyhow::Result;
-use phone_engine::{Engine, Rules};
+use phone_engine::{Engine, Rules, codes, example, regions};
 use phone_meta::Database;
-use phone_util::{codes, example, regions};
 use phone_values::country::Id;
 use phonenumber::PhoneNumber;
 use replay_base::marks::{around, begin};

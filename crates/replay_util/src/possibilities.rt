@@ -2,9 +2,8 @@
 //! parts, `possible-text` of a text under a hint.
 use crate::by_rules::{by_rules, hinted, without_hint};
 use anyhow::Result;
-use phone_engine::Engine;
+use phone_engine::{Engine, possibility_of, possibility_of_text};
 use phone_meta::Database;
-use phone_util::{possibility_of, possibility_of_text};
 use phonenumber::PhoneNumber;
 use replay_base::marks::{around, begin};
 use replay_base::table::Row;

@@ -1,5 +1,5 @@
 //! Whether a number that is dialled from a territory lies within the premises of
-//! `phone_util::dialled::laws` under which it is read back there, decided by code of its own and
+//! `phone_engine::dialled::laws` under which it is read back there, decided by code of its own and
 //! not by reading a text.
 use anyhow::Result;
 use phone_chars::chars::is_digit;

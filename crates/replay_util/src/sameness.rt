@@ -1,9 +1,8 @@
 //! The call that asks whether two texts are one number.
 use crate::by_rules::{by_rules, without_hint};
 use anyhow::Result;
-use phone_engine::Engine;
+use phone_engine::{Engine, compare_texts};
 use phone_meta::Database;
-use phone_util::compare_texts;
 use replay_base::marks::{around, begin};
 use replay_base::table::Row;
 use replay_base::words::refusal;

@@ -8,8 +8,8 @@ use Rattle.phone_values.specs.declared.mode.Mode.TheVariants.{Rfc3966}
 use Rattle.phone_library_text.specs.Written.{most_characters}
 use Rattle.phone_print.specs.Texts.{hyphenated, laid_out_by}
 use Rattle.phone_values.specs.declared.rules.Rules.{Rules}
-use Rattle.phone_library_back.specs.Layouts.{IsLaidOut}
-use Rattle.phone_library_back.specs.Plain.{IsLaidRfc3966}
+use Rattle.phone_library_laws.specs.Layouts.{IsLaidOut}
+use Rattle.phone_library_laws.specs.Plain.{IsLaidRfc3966}
 use Rattle.headline_examples.proofs.Laid.{nz_laid_rfc3966}
 use Rattle.headline_examples.proofs.NewZealand.{five, nz_laid_plainly, nz_plain}
 use Rattle.headline_examples.specs.Samples.{db_b, extended, nz}

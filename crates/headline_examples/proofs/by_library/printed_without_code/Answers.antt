@@ -9,8 +9,8 @@ use Rattle.phone_print.specs.Texts.{laid_out_by}
 use Rattle.phone_values.specs.declared.rules.Rules.{Rules}
 use Rattle.phone_read.specs.Strips.{Stripped}
 use Rattle.phonenumber.proofs.BackTexts.{IsUtf8-low}
-use Rattle.phone_library_back.specs.Layouts.{IsLaidOut, is_quiet}
-use Rattle.phone_library_back.specs.Plain.{IsDialledInside}
+use Rattle.phone_library_laws.specs.Layouts.{IsLaidOut, is_quiet}
+use Rattle.phone_library_laws.specs.Plain.{IsDialledInside}
 use Rattle.headline_examples.proofs.Kept.{stripped_kept}
 use Rattle.headline_examples.proofs.Laid.{spaced_laid_by}
 use Rattle.headline_examples.specs.Samples.{am_by_anexo, number}

@@ -1,6 +1,6 @@
 use Rattle.std.proofs.Common.{None}
 use Rattle.std.specs.Str.{chars}
-use Rattle.phone_library_back.specs.Keys.IsReadByEither.{by_library}
+use Rattle.phone_library_laws.specs.Keys.IsReadByEither.{by_library}
 use Rattle.phone_print.specs.Texts.{e164_text}
 use Rattle.headline_examples.proofs.NewZealand.{nz_settled}
 use Rattle.headline_examples.specs.Samples.{db_b, number}

@@ -6,8 +6,8 @@ use Rattle.phone_values.specs.Ids.{name}
 use Rattle.phone_library_text.specs.Written.{most_characters}
 use Rattle.phone_read.specs.Strips.{Stripped}
 use Rattle.phonenumber.proofs.BackTexts.{IsUtf8-low}
-use Rattle.phone_library_back.specs.Layouts.{IsLaidOut, is_quiet}
-use Rattle.phone_library_back.specs.Plain.{IsDialledInside}
+use Rattle.phone_library_laws.specs.Layouts.{IsLaidOut, is_quiet}
+use Rattle.phone_library_laws.specs.Plain.{IsDialledInside}
 use Rattle.headline_examples.proofs.Kept.{stripped_kept}
 use Rattle.headline_examples.specs.Samples.{bare_ad, number}
 use Rattle.headline_examples.proofs.by_library.two_digits_printed.Goals as goal

@@ -9,7 +9,7 @@ use Rattle.phone_records.specs.declared.loader.Descriptor.{Descriptor}
 use Rattle.phone_read.specs.Kinds as crate_kinds
 use Rattle.phone_read.specs.Kinds.{is_known}
 use Rattle.phone_territory.specs.Kinds.{descriptor_for, kinds_of}
-use Rattle.phone_util.specs.Possibilities.{lists_lengths}
+use Rattle.phone_engine.specs.Possibilities.{lists_lengths}
 use Rattle.headline_examples.proofs.Laid.{eight_front, eight_whole}
 use Rattle.headline_examples.specs.Samples.{free_phone}
 use Rattle.headline_examples.proofs.told.valid_number.Goals as goal

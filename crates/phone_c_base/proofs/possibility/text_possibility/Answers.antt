@@ -3,7 +3,7 @@ use Rattle.phone_values.specs.declared.country.Id.{Id}
 use Rattle.phone_values.specs.declared.error.ParseError.TheVariants.{Memory}
 use Rattle.phone_records.specs.declared.loader.Metadata.{Metadata}
 use Rattle.phone_values.specs.declared.rules.Rules.{Rules}
-use Rattle.phone_util.specs.declared.possibilities.Possibility.{Possibility}
+use Rattle.phone_engine.specs.declared.possibilities.Possibility.{Possibility}
 use Rattle.phone_c_base.specs.Possibilities.{IsSaidOfText}
 use Rattle.phone_c_base.proofs.possibility.text_possibility.Goals as goal
 

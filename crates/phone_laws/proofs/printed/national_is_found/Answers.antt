@@ -1,6 +1,6 @@
 use Rattle.std.proofs.Common.{Some, chars}
 use Rattle.phone_library.specs.Readings.{stripped}
-use Rattle.phone_library_back.specs.Printed.{inside_reading}
+use Rattle.phone_library_laws.specs.Printed.{inside_reading}
 use Rattle.phone_matches.specs.Leniencies
 use Rattle.phone_matches.specs.declared.leniency.Leniency.TheVariants.{Valid}
 use Rattle.phone_laws.proofs.printed.national_is_found.Goals as goal

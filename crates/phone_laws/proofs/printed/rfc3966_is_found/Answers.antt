@@ -1,5 +1,5 @@
 use Rattle.std.proofs.Common.{chars, refl}
-use Rattle.phone_library_back.specs.Printed.{printed_reading}
+use Rattle.phone_library_laws.specs.Printed.{printed_reading}
 use Rattle.phone_matches.specs.Leniencies
 use Rattle.phone_matches.specs.declared.leniency.Leniency.TheVariants.{Valid}
 use Rattle.phone_laws.proofs.BehindScheme.{behind_scheme}

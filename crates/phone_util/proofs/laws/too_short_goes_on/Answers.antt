@@ -1,5 +1,0 @@
-use Rattle.phone_util.proofs.Longer.{too_short_goes_on}
-use Rattle.phone_util.proofs.laws.too_short_goes_on.Goals as goal
-
-pub returns : goal.returns
-returns c = too_short_goes_on

@@ -1,5 +1,0 @@
-use Rattle.phone_util.proofs.ListedLengths.{valid_is_possible}
-use Rattle.phone_util.proofs.laws.valid_is_possible.Goals as goal
-
-pub returns : goal.returns
-returns c = valid_is_possible

@@ -1,4 +1,0 @@
-use Rattle.phone_util.proofs.possibilities.kind_descriptors.Goals as goal
-
-pub returns : goal.returns
-returns c = c.descriptors_of.ensures
