@@ -1,5 +1,6 @@
 //! What holds of libphonenumber's rules, and of numbers, printed or shown while they are typed,
-//! that are read by them. The functions of this crate do nothing; their contracts are the statements.
+//! that are read by them. The functions of this crate do nothing; their contracts are the
+//! statements.
 #![tactic(auto)]
 
 pub mod again;
