@@ -17,7 +17,8 @@ use phone_c_base::number::Number;
 use phone_c_base::status::{
     BAD_NUMBER, CLOSED, MEMORY, NO_EXAMPLE, NO_MODE, NO_REGION, NO_WORD, NOT_UTF8, OK, TOO_SMALL,
 };
-use phone_c_questions::formats::{as_written, for_mobile, from_region, in_mode};
+use phone_c_questions::formats::{for_mobile, in_mode};
+use phone_c_questions::forms::{Abroad, Original, from_region};
 use phone_c_questions::layouts::by_layouts;
 use phone_c_questions::short::{FactsAnywhere, anywhere, example};
 use std::alloc::Global;
@@ -158,7 +159,8 @@ pub extern "C" fn phone_text_from(
     let Some(opened) = take(alloc, handle) else {
         return CLOSED;
     };
-    let status = from_region(opened.database(), region, raw, number, bytes, out, wrote);
+    let database = opened.database();
+    let status = from_region(&Abroad, database, region, raw, number, bytes, out, wrote);
     put(alloc, handle, opened);
     status
 }
@@ -204,7 +206,8 @@ pub extern "C" fn phone_original_text(
     let Some(opened) = take(alloc, handle) else {
         return CLOSED;
     };
-    let status = as_written(opened.database(), region, raw, number, bytes, out, wrote);
+    let database = opened.database();
+    let status = from_region(&Original, database, region, raw, number, bytes, out, wrote);
     put(alloc, handle, opened);
     status
 }

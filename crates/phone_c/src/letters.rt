@@ -15,8 +15,9 @@ use phone_c_base::number::Number;
 use phone_c_base::status::{
     BAD_NUMBER, CLOSED, MEMORY, NO_EXAMPLE, NO_KIND, NO_REGION, NOT_UTF8, OK, TOO_SMALL,
 };
+use phone_c_questions::forms::{Dialled, Lettered, from_region};
 use phone_c_questions::kind_examples::of_kind;
-use phone_c_questions::letters::{dialled, extracted, lettered};
+use phone_c_questions::letters::extracted;
 use std::alloc::Global;
 
 /// Writes how a number is dialled from a region, which is a hint as `phone_report` takes it, with
@@ -60,7 +61,8 @@ pub extern "C" fn phone_text_with_letters(
     let Some(opened) = take(alloc, handle) else {
         return CLOSED;
     };
-    let status = lettered(opened.database(), region, raw, number, bytes, out, wrote);
+    let database = opened.database();
+    let status = from_region(&Lettered, database, region, raw, number, bytes, out, wrote);
     put(alloc, handle, opened);
     status
 }
@@ -104,7 +106,8 @@ pub extern "C" fn phone_dialled_with_letters(
     let Some(opened) = take(alloc, handle) else {
         return CLOSED;
     };
-    let status = dialled(opened.database(), region, raw, number, bytes, out, wrote);
+    let database = opened.database();
+    let status = from_region(&Dialled, database, region, raw, number, bytes, out, wrote);
     put(alloc, handle, opened);
     status
 }

@@ -8,4 +8,3 @@ pub mod OneMatches
 pub mod OneOriginals
 pub mod OneOwnAnswers
 pub mod OneWays
-pub mod TextsFrom

@@ -1,6 +1,7 @@
 pub mod Carriers
 pub mod Examples
 pub mod Formats
+pub mod Forms
 pub mod Found
 pub mod KindExamples
 pub mod Layouts

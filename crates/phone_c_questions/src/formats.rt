@@ -1,20 +1,17 @@
-//! How a number that is given as plain numbers is written so that it can be dialled, or as the text
-//! was that it was read from.
-ghost use Rattle.std.specs.Prelude.{◌≡◌, ◌<◌, ◌↔◌, IfNone, IfSome, IsUtf8, None};
+//! The text in a mode of a number that is given as plain numbers, and what a mobile phone dials to
+//! reach it, where the text may be known that it was read from.
+ghost use Rattle.std.specs.Prelude.{◌≡◌, ◌<◌, ◌↔◌, IfNone, IfSome, IsUtf8};
 ghost use Rattle.std.specs.Option.{option_copied};
 ghost use Rattle.phone_dialling.specs.Abroad.{if_some};
 ghost use Rattle.phone_c_base.specs.Buffers.{IsTooLongA, IsWrittenA};
-ghost use Rattle.phone_c_base.specs.Hints.{hint_of};
 ghost use Rattle.phone_c_base.specs.Numbers.{AreNoNumber};
-ghost use Rattle.phone_c_questions.specs.Formats.{IsMobileText, IsTextAsWritten, IsTextFrom};
-ghost use Rattle.phone_c_questions.specs.Formats.{IsTextIn};
+ghost use Rattle.phone_c_questions.specs.Formats.{IsMobileText, IsTextIn};
 
 use crate::modes::mode_of;
 use phone_c_base::buffer::give;
-use phone_c_base::hint::hint_of;
 use phone_c_base::number::{Number, to_phone_number};
-use phone_c_base::status::{BAD_NUMBER, MEMORY, NO_MODE, NO_REGION, NOT_UTF8, OK, TOO_SMALL};
-use phone_dialling::{dialled_text, mobile_text, original_text, text_in, unless_empty};
+use phone_c_base::status::{BAD_NUMBER, MEMORY, NO_MODE, NOT_UTF8, OK, TOO_SMALL};
+use phone_dialling::{mobile_text, text_in, unless_empty};
 use phone_plans::Plans;
 
 /// The text that a number was read from, of its bytes: no such text where there is no byte; none
@@ -107,92 +104,6 @@ pub fn for_mobile(
         Err(status) => return status,
     };
     match mobile_text(database, id, with_symbols != 0, raw, &number) {
-        Ok(text) => give(text.as_bytes(), out, wrote),
-        Err(_) => MEMORY,
-    }
-}
-
-/// How a number is dialled from a region, or from none, in a buffer.
-pub fn from_region(
-    database: &Plans,
-    region: &[u8],
-    raw: &[u8],
-    number: &Number,
-    bytes: &[u8],
-    out: &mut [u8],
-    wrote: &mut usize,
-) -> u32
-    ensures written { result ≡ OK → IsWrittenA
-        (IsTextFrom database.now region.now raw.now number.now bytes.now)
-        out.old out.new wrote.new }
-    ensures too_small { result ≡ TOO_SMALL → IsTooLongA
-        (IsTextFrom database.now region.now raw.now number.now bytes.now)
-        out.old out.new wrote.new }
-    ensures no_region { (result ≡ NO_REGION) ↔ (hint_of region.now ≡ None) }
-    ensures not_utf8 { (result ≡ NOT_UTF8) ↔
-        (¬ (hint_of region.now ≡ None) × ¬ (IsUtf8 raw.now)) }
-    ensures bad { (result ≡ BAD_NUMBER) ↔ (¬ (hint_of region.now ≡ None) ×
-        IsUtf8 raw.now × AreNoNumber number.now bytes.now) }
-    ensures other { ¬ (result ≡ OK) → ¬ (result ≡ TOO_SMALL) → ¬ (result ≡ NO_REGION) →
-        ¬ (result ≡ NOT_UTF8) → ¬ (result ≡ BAD_NUMBER) → result ≡ MEMORY }
-    ensures untouched { ¬ (result ≡ OK) → out.new ≡ out.old }
-    ensures no_length { ¬ (result ≡ OK) → ¬ (result ≡ TOO_SMALL) → wrote.new ≡ 0 }
-{
-    *wrote = 0;
-    let Some(from) = hint_of(region) else {
-        return NO_REGION;
-    };
-    let Some(raw) = raw_of(raw) else {
-        return NOT_UTF8;
-    };
-    let number = match to_phone_number(database.allocator(), number, bytes) {
-        Ok(number) => number,
-        Err(status) => return status,
-    };
-    match dialled_text(database, from, raw, &number) {
-        Ok(text) => give(text.as_bytes(), out, wrote),
-        Err(_) => MEMORY,
-    }
-}
-
-/// A number printed as the text was written that it was read from, in a buffer.
-pub fn as_written(
-    database: &Plans,
-    region: &[u8],
-    raw: &[u8],
-    number: &Number,
-    bytes: &[u8],
-    out: &mut [u8],
-    wrote: &mut usize,
-) -> u32
-    ensures written { result ≡ OK → IsWrittenA
-        (IsTextAsWritten database.now region.now raw.now number.now bytes.now)
-        out.old out.new wrote.new }
-    ensures too_small { result ≡ TOO_SMALL → IsTooLongA
-        (IsTextAsWritten database.now region.now raw.now number.now bytes.now)
-        out.old out.new wrote.new }
-    ensures no_region { (result ≡ NO_REGION) ↔ (hint_of region.now ≡ None) }
-    ensures not_utf8 { (result ≡ NOT_UTF8) ↔
-        (¬ (hint_of region.now ≡ None) × ¬ (IsUtf8 raw.now)) }
-    ensures bad { (result ≡ BAD_NUMBER) ↔ (¬ (hint_of region.now ≡ None) ×
-        IsUtf8 raw.now × AreNoNumber number.now bytes.now) }
-    ensures other { ¬ (result ≡ OK) → ¬ (result ≡ TOO_SMALL) → ¬ (result ≡ NO_REGION) →
-        ¬ (result ≡ NOT_UTF8) → ¬ (result ≡ BAD_NUMBER) → result ≡ MEMORY }
-    ensures untouched { ¬ (result ≡ OK) → out.new ≡ out.old }
-    ensures no_length { ¬ (result ≡ OK) → ¬ (result ≡ TOO_SMALL) → wrote.new ≡ 0 }
-{
-    *wrote = 0;
-    let Some(from) = hint_of(region) else {
-        return NO_REGION;
-    };
-    let Some(raw) = raw_of(raw) else {
-        return NOT_UTF8;
-    };
-    let number = match to_phone_number(database.allocator(), number, bytes) {
-        Ok(number) => number,
-        Err(status) => return status,
-    };
-    match original_text(database, from, raw, &number) {
         Ok(text) => give(text.as_bytes(), out, wrote),
         Err(_) => MEMORY,
     }

@@ -11,6 +11,7 @@ pub mod codes;
 pub mod dialling_laws;
 pub mod examples;
 pub mod formats;
+pub mod forms;
 pub mod found;
 pub mod kind_examples;
 pub mod laws;
