@@ -17,7 +17,7 @@ use phone_dialling::{
     dialled_text, dialled_with_letters, original_text, text_with_letters, unless_empty,
 };
 use phone_plans::Plans;
-use phone_values::Id;
+use phone_values::country::Id;
 use phonenumber::PhoneNumber;
 use std::alloc::AllocError;
 

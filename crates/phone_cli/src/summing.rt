@@ -1,7 +1,7 @@
 //! The file of a summary, which is written whole or not at all.
 ghost use Rattle.std.specs.Prelude.{◌≡◌, ◌⊎◌, ◌++◌, ◌∷◌, [], IfOk, is_some, string_bytes, true};
 ghost use Rattle.serde_json.specs.Written.{compact_text};
-ghost use Rattle.phone_summary.specs.Objects.{summary_object};
+ghost use Rattle.phone_table.specs.Objects.{summary_object};
 
 use crate::beside::{Place, Target, Unfinished, create_beside, place_of, put_in_place};
 use crate::say::{say, say_records};

@@ -3,9 +3,12 @@ pub mod Alone
 pub mod Announced
 pub mod Decided
 pub mod Firsts
+pub mod Grouped
 pub mod Laid
+pub mod Lists
 pub mod Ones
 pub mod Orders
+pub mod Parts
 pub mod Same
 pub mod Scalars
 pub mod Seams

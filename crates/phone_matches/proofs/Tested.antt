@@ -2,8 +2,8 @@
 use Rattle.std.proofs.Common.{◌≡◌, ℕ, Bool, false, List, [], Option, IfOk, Result, encode_utf8_all, is_some, unwrap_or, ap, ap₂, subst, ◌∙◌}
 use Rattle.std.specs.Fmt.{decimal}
 use Rattle.std.specs.Option.{option_map_or}
-use Rattle.phone_groups.specs.Exact.{digit_runs, is_exact}
-use Rattle.phone_groups.specs.Strict.{behind_code, is_strict}
+use Rattle.phone_matches.specs.Exact.{digit_runs, is_exact}
+use Rattle.phone_matches.specs.Strict.{behind_code, is_strict}
 use Rattle.phone_matches.specs.Groupings.{has_grouping, is_grouped, is_prefixed, main_territory, with_digits}
 use Rattle.phone_matches.specs.Layouts.{alternates_of}
 use Rattle.phone_matches.specs.declared.groupings.Strictness.TheVariants.{Exact, Strict}

@@ -5,9 +5,9 @@ use Rattle.std.specs.Prelude.{encode_utf8_all, length, Option, is_some, unwrap_o
 use Rattle.std.specs.Fmt.{decimal}
 use Rattle.std.specs.List.{list_any}
 use Rattle.std.specs.Option.{option_and_then, option_map_or}
-use Rattle.phone_groups.specs.Exact.{digit_runs, is_exact}
+use Rattle.phone_matches.specs.Exact.{digit_runs, is_exact}
 use Rattle.phone_matches.specs.Layouts.{alternates_of, groups_abroad, groups_by}
-use Rattle.phone_groups.specs.Strict.{behind_code, is_strict}
+use Rattle.phone_matches.specs.Strict.{behind_code, is_strict}
 use Rattle.phone_matches.specs.declared.groupings.Strictness.{Strictness}
 use Rattle.phone_matches.specs.declared.groupings.Strictness.TheVariants.{Exact, Strict}
 use Rattle.phone_library_text.specs.Letters.{value_of}

@@ -4,7 +4,7 @@ use Rattle.std.specs.Prelude.{◌++◌, chars, drop, length, Option, None, Some}
 use Rattle.std.specs.List.{find}
 use Rattle.std.specs.Option.{option_and_then, option_map_or}
 use Rattle.phone_chars.specs.Characters.{is_separator}
-use Rattle.phone_groups.specs.Runs.{groups}
+use Rattle.phone_matches.specs.Runs.{groups}
 use Rattle.phone_matches_text.specs.Shapes.{before_end}
 use Rattle.phone_plans.specs.CodeLookUps.{first_of, territories}
 use Rattle.phone_matches.specs.Prefixes.{fits}

@@ -1,7 +1,7 @@
 -- How strictly the numbers of a text are judged: as libphonenumber's leniencies do.
 use Rattle.std.specs.Prelude.{◌≡◌, ◌&&◌, not, ℕ, Bool, true, false, List}
 use Rattle.phone_matches.specs.Groupings.{is_grouped}
-use Rattle.phone_groups.specs.Slashes.{has_many_slashes}
+use Rattle.phone_matches.specs.Slashes.{has_many_slashes}
 use Rattle.phone_matches.specs.declared.groupings.Strictness.{Strictness}
 use Rattle.phone_matches.specs.declared.groupings.Strictness.TheVariants.{Exact, Strict}
 use Rattle.phone_library.specs.Facts.{is_valid_number}

@@ -1,3 +1,4 @@
+pub mod Exact
 pub mod Groupings
 pub mod Layouts
 pub mod Leniencies
@@ -5,6 +6,10 @@ pub mod Marks
 pub mod Numbers
 pub mod Orders
 pub mod Prefixes
+pub mod Runs
 pub mod Searches
+pub mod Slashes
 pub mod Spaced
+pub mod Strict
+pub mod Texts
 pub mod Told

@@ -10,8 +10,10 @@ ghost use Rattle.phone_matches.specs.Layouts.{alternates_of, groups_by};
 ghost use Rattle.phone_territory.specs.Records.{is_led};
 ghost use Rattle.phone_values.specs.Numbers.{text_of};
 
+use crate::exact::{IsExact, digit_runs};
 use crate::layouts::{alternates_of, is_passed_abroad, is_passed_by};
-use phone_groups::{IsExact, StandsInOrder, Test, behind_code, digit_runs};
+use crate::strict::{StandsInOrder, behind_code};
+use crate::test::Test;
 use phone_library_text::value_of;
 use phone_plans::{Plans, Territory};
 use phone_territory::Format;

@@ -4,12 +4,13 @@ ghost use Rattle.std.specs.Prelude.{string_bytes, unwrap_or};
 ghost use Rattle.std.specs.Option.{option_copied};
 ghost use Rattle.phone_matches.specs.Layouts.{alternates_of, groups_abroad, groups_by};
 ghost use Rattle.phone_matches.specs.Layouts.{laid_each, laid_first, layouts_abroad};
-ghost use Rattle.phone_groups.specs.Runs.{told};
+ghost use Rattle.phone_matches.specs.Runs.{told};
 
 use crate::first_fitting;
+use crate::runs::groups;
+use crate::test::Test;
 use phone_chars::chars::is_separator;
 use phone_chars::cuts::{CharSet, before};
-use phone_groups::{Test, groups};
 use phone_plans::{Plans, Territory};
 use phone_print::printing::layouts_for;
 use phone_territory::Format;

@@ -9,7 +9,8 @@ ghost use Rattle.phone_matches.specs.Marks.{HasGoodMarks};
 ghost use Rattle.phone_matches.specs.Prefixes.{has_prefix};
 
 use crate::marks::has_good_marks;
-use crate::{Strictness, has_many_slashes, has_prefix, is_grouped};
+use crate::slashes::has_many_slashes;
+use crate::{Strictness, has_prefix, is_grouped};
 use phone_library::is_valid;
 use phone_matches_text::stands_free;
 use phone_plans::Plans;

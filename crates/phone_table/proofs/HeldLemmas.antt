@@ -1,7 +1,7 @@
 -- What keeps all records of a table, after a run over them.
 use Rattle.std.proofs.Common.{◌≡◌, false, List, [], ◌∷◌, ◌++◌, refl, sym, ap, subst, ◌∙◌}
 use Rattle.phone_csv.specs.Formats.{Record}
-use Rattle.phone_summary.specs.Summaries.{IsEmpty}
+use Rattle.phone_table.specs.Summaries.{IsEmpty}
 use Rattle.phone_csv.specs.RecordReports.{AreRows}
 use Rattle.phone_csv.specs.RecordReports.AreRows.{none, answered, left_out}
 use Rattle.phone_table.specs.Answered.{Answered, AreAnswered, key_in}

@@ -17,7 +17,7 @@ use Rattle.phone_table.proofs.EndsWeaker.{ends_weaker}
 use Rattle.phone_table.proofs.Summing.{sums_none, sums_one}
 use Rattle.phone_table.proofs.Writing.{some_told, told}
 use Rattle.phone_table.specs.Counts.{no_counts}
-use Rattle.phone_summary.specs.Summaries.{IsEmpty}
+use Rattle.phone_table.specs.Summaries.{IsEmpty}
 use Rattle.phone_table.specs.Answered.{Answered, AreAnswered, has_key, key_in}
 use Rattle.phone_table.specs.Rows.{AreKept, WritesKept, WritesSome, is_taken}
 use Rattle.phone_table.specs.Summed.{IsSummed, totals_of}

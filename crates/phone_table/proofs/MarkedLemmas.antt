@@ -15,7 +15,7 @@ use Rattle.phone_csv.specs.declared.blocks.RunError.TheVariants as error
 use Rattle.phone_csv.specs.declared.cutter.Start.{Start}
 use Rattle.phone_csv.specs.declared.format.Format.{Format}
 use Rattle.phone_lines.specs.Ends.{Devices, seen}
-use Rattle.phone_summary.specs.Summaries.{IsEmpty}
+use Rattle.phone_table.specs.Summaries.{IsEmpty}
 use Rattle.phone_table.specs.Answers.{IsOfOtherWidth}
 use Rattle.phone_table.specs.Counts.{no_counts}
 use Rattle.phone_table.specs.Duplicates.{marked_rows}

@@ -2,9 +2,9 @@
 use Rattle.std.proofs.Common.{◌≡◌, List, [], ◌∷◌, ◌++◌, sym, subst}
 use Rattle.std.specs.Prelude.{map}
 use Rattle.std.proofs.lemmas.List.{map-append}
-use Rattle.phone_summary.specs.Summaries.{IsEmpty, IsSummary}
-use Rattle.phone_summary.specs.declared.summary.Summary.{Summary}
-use Rattle.phone_summary.proofs.Counting.{empty_summary}
+use Rattle.phone_table.specs.Summaries.{IsEmpty, IsSummary}
+use Rattle.phone_table.specs.declared.summary.Summary.{Summary}
+use Rattle.phone_table.proofs.Counting.{empty_summary}
 use Rattle.phone_table.specs.Answered.{Answered}
 use Rattle.phone_table.specs.Rows.{row_of}
 use Rattle.phone_table.specs.Summed.{IsSummed, SumsRow, told_of}

@@ -5,11 +5,14 @@ pub mod Duplicates
 pub mod Ends
 pub mod Headers
 pub mod Held
+pub mod Objects
 pub mod Regions
 pub mod Rows
 pub mod Runs
+pub mod Summaries
 pub mod Summed
 pub mod Tables
 pub mod Taking
+pub mod Tallies
 pub mod Unknowns
 pub mod Unwritten

@@ -2,8 +2,8 @@
 use Rattle.std.specs.Prelude.{◌≡◌, ◌-◌, ℕ, true, List, [], length, map, Option, None, Some}
 use Rattle.std.specs.List.{position}
 use Rattle.phone_csv.specs.Formats.{Record}
-use Rattle.phone_summary.specs.Summaries.{CountsRow, IsSummary, Row}
-use Rattle.phone_summary.specs.declared.summary.Summary.{Summary}
+use Rattle.phone_table.specs.Summaries.{CountsRow, IsSummary, Row}
+use Rattle.phone_table.specs.declared.summary.Summary.{Summary}
 use Rattle.phone_table.specs.Answered.{Answered}
 use Rattle.phone_answers.specs.Extras.{tells_doubts}
 use Rattle.phone_answers.specs.Fields.{fields}

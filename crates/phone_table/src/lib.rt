@@ -1,5 +1,6 @@
 //! Tables of customers: the records of a CSV text, each given back with what is known of the phone
-//! number in one of its columns.
+//! number in one of its columns; and a summary of the answers: how often each type, each region,
+//! each refusal and each word of what is suspicious stands there, and the JSON text of it.
 #![tactic(auto)]
 
 mod counts;
@@ -10,11 +11,14 @@ mod key;
 pub mod laws;
 mod marked;
 mod names;
+mod object;
 mod region;
 mod rows;
 mod run;
+mod summary;
 mod summed;
 mod table;
+mod tally;
 mod unknown;
 
 pub use counts::Counts;
@@ -25,8 +29,9 @@ pub use phone_answers::{
 };
 pub use phone_csv::{ByteSink, ByteSource, FirstError, RunError};
 pub use phone_places::{Countries, id_in};
-pub use phone_summary::{Summary, Tally};
 pub use run::{Asked, TableError, write_table};
+pub use summary::{Answered, Summary};
 pub use summed::Totals;
 pub use table::Table;
+pub use tally::{Tally, add, times};
 pub use unknown::{MOST_UNKNOWN, UnknownNames};

@@ -7,7 +7,7 @@ ghost use Rattle.phone_csv.specs.RecordReports.{IsReport, WritesRows, WritesSome
 ghost use Rattle.phone_csv.specs.Runs.{OfRead};
 ghost use Rattle.phone_device.specs.Passing.{IsAtEnd};
 ghost use Rattle.phone_lines.specs.Ends.{seen};
-ghost use Rattle.phone_summary.specs.Summaries.{IsEmpty};
+ghost use Rattle.phone_table.specs.Summaries.{IsEmpty};
 ghost use Rattle.phone_table.specs.Answers.{IsOfOtherWidth};
 ghost use Rattle.phone_table.specs.Counts.{no_counts};
 ghost use Rattle.phone_table.specs.Ends.{Ends};

@@ -1,16 +1,16 @@
 //! The summary of the rows of a table.
 ghost use Rattle.std.specs.Prelude.{◌≡◌, OnOk};
 ghost use Rattle.csv.specs.Records.{fields_of};
-ghost use Rattle.phone_summary.specs.Summaries.{row_of};
+ghost use Rattle.phone_table.specs.Summaries.{row_of};
 ghost use Rattle.phone_table.specs.Summed.{SumsRow, doubts_place, extra_field, told_of, totals_of};
 
 use crate::counts::{Counts, answer_field};
 use crate::run::Asked;
 use crate::table::{Table, field_in};
 use crate::unknown::UnknownNames;
+use crate::{Answered, Summary};
 use csv::ByteRecord;
 use phone_answers::{ANSWER_WIDTH, Extra, Field, tells_doubts};
-use phone_summary::{Answered, Summary};
 use std::alloc::{AllocError, Global};
 
 /// What is told of a table that was answered whole.

@@ -1,8 +1,8 @@
 use Rattle.std.proofs.Common.{rules, ◌≡◌, [], chars, is_some, unwrap_or, ap, ◌∙◌}
 use Rattle.std.specs.Option.{option_copied}
 use Rattle.phone_matches.proofs.Scalars.{read_digits}
-use Rattle.phone_groups.specs.Exact.{digit_runs}
-use Rattle.phone_groups.specs.Runs.{told}
+use Rattle.phone_matches.specs.Exact.{digit_runs}
+use Rattle.phone_matches.specs.Runs.{told}
 use Rattle.phone_matches.proofs.Tested.{exact_same, if_same}
 use Rattle.phone_matches.specs.Groupings.{main_territory, with_digits}
 use Rattle.phone_matches.specs.Layouts.{alternates_of}

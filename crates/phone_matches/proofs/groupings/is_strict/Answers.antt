@@ -1,7 +1,7 @@
 use Rattle.std.proofs.Common.{rules, ◌≡◌, [], chars, encode_utf8_all, unwrap_or}
 use Rattle.std.specs.Option.{option_copied}
 use Rattle.std.specs.Fmt.{decimal}
-use Rattle.phone_groups.specs.Strict.{behind_code}
+use Rattle.phone_matches.specs.Strict.{behind_code}
 use Rattle.phone_matches.proofs.Tested.{strict_same, if_same}
 use Rattle.phone_matches.specs.Groupings.{main_territory, with_digits}
 use Rattle.phone_matches.specs.Layouts.{alternates_of}

@@ -1,6 +1,6 @@
 use Rattle.std.proofs.Common.{sym, subst, true≢false, ◌∙◌}
 use Rattle.std.proofs.lemmas.Result.{on_ok_weaker}
-use Rattle.phone_summary.specs.Summaries.{CountsRow}
+use Rattle.phone_table.specs.Summaries.{CountsRow}
 use Rattle.phone_table.proofs.summed.sum_row.Goals as goal
 
 pub returns-then-is_summed : goal.returns-then-is_summed

@@ -1,3 +1,0 @@
-pub mod Grouped
-pub mod Lists
-pub mod Parts

@@ -1,7 +1,0 @@
-use Rattle.std.proofs.Common.{◌≡◌, drop}
-use Rattle.phone_groups.specs.Exact.{are_same}
-use Rattle.phone_groups.specs.Runs.{told}
-use Rattle.phone_groups.proofs.exact.are_same.Given as goal
-
-abbrev pub invariant-loop-at : goal.invariant-loop-at
-invariant-loop-at l = are_same (told l.texts) (told l.others) ≡ are_same (told (drop l.at l.texts)) (told (drop l.at l.others))

@@ -1,5 +1,0 @@
-pub mod Exact
-pub mod Runs
-pub mod Slashes
-pub mod Strict
-pub mod Texts
