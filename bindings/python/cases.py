@@ -5,6 +5,7 @@ FOLDER is crates/replay/data, whose rows are replayed. The last line is `python:
 
 import copy
 import doctest
+import json
 import os
 import pickle
 import re
@@ -16,8 +17,8 @@ from pathlib import Path
 
 import phonenumber_proved
 from phonenumber_proved import (
-    TABLE, BadPrefixes, Database, Error, Form, Kind, Mode, NoNumber, PhoneNumber, Prefixes, Rules, ShortNumbers, Source, UnknownCode,
-    UnknownRegion, _calls, has_letters, is_viable, normalize,
+    TABLE, BadPrefixes, Database, Error, Form, Kind, Layout, Layouts, Mode, NoNumber, PhoneNumber, Prefixes, Rules, ShortNumbers, Source,
+    UnknownCode, UnknownRegion, _calls, has_letters, is_viable, normalize,
 )
 
 REPLAY = Path(__file__).resolve().parents[2] / "crates" / "replay" / "data"
@@ -143,6 +144,17 @@ def numbers_come_from_parts(world):
     read = world.parse("+64 3 331 6005")
     made = PhoneNumber.from_parts(64, "33316005")
     check("parts", (made == read, hash(made) == hash(read), made.on(world).region, made.rules), (True, True, "NZ", Rules.LIBRARY))
+
+
+def layouts_serve_each_national_prefix():
+    """Layouts keep a template for five national prefixes: they serve eight, each asked again, and none."""
+    general = {"national_number": r"\d{8}"}
+    rows = [{"id": f"A{chr(65 + it)}", "country_code": 20 + it, "general": general, "national_prefix": str(it)} for it in range(8)]
+    rows.append({"id": "AZ", "country_code": 28, "general": general})
+    own = [Layout(r"(\d)(\d+)", "$1 $2", national_prefix_rule="($NP$FG)")]
+    with Database(json.dumps(rows)) as table, Layouts(own) as kept:
+        told = [table.parse(f"+{20 + it}33316005").format_by(kept) for it in [*range(9)] * 3]
+    check("layouts", told, [f"({it}3) 3316005" if it < 8 else "3 3316005" for it in [*range(9)] * 3])
 
 
 def no_file_is_needed():
@@ -435,6 +447,7 @@ def main(words):
         for case in (lone_surrogates_are_refused, what_is_no_region_is_refused, texts_are_str_or_bytes):
             case(world, table)
         long_texts()
+        layouts_serve_each_national_prefix()
         no_file_is_needed()
         each_value_has_a_word()
         count = [typed_rows(world, folder), short_rows(table, folder), prefix_rows(folder), docstrings()]

@@ -68,21 +68,15 @@ IsDescriptionBy db held n user as_it_stands text = (atlas : lent.Atlas) × IsLen
     IsAsAsked as_it_stands (IsDescription db atlas (user_of user) n text)
     (IsDescribed db atlas (user_of user) n text)
 
--- by them, this is its carrier
-abbrev pub IsCarrierBy : List Metadata → OwnedAtlas → Reading → (as_it_stands : ℕ) → List ℕ →
-    Type 0
-IsCarrierBy db held n as_it_stands text = (atlas : lent.Atlas) × IsLentOf held atlas ×
-    IsAsAsked as_it_stands (IsCarrierByKind db atlas n text) (IsCarrier atlas (digits_of n) text)
+-- by tables that are lent, this is told of a number
+abbrev pub IsToldBy : (tells : lent.Atlas → Reading → List ℕ → Type 0) → OwnedAtlas → Reading →
+    List ℕ → Type 0
+IsToldBy tells held n text = (atlas : lent.Atlas) × IsLentOf held atlas × tells atlas n text
 
--- by them, this is the carrier that is safe to show
-abbrev pub IsSafeCarrierBy : List Metadata → OwnedAtlas → Reading → List ℕ → Type 0
-IsSafeCarrierBy db held n text =
-    (atlas : lent.Atlas) × IsLentOf held atlas × IsSafeCarrier db atlas n text
-
--- by them, this is the name of its country
-abbrev pub IsCountryBy : List Metadata → OwnedAtlas → Reading → List ℕ → Type 0
-IsCountryBy db held n text =
-    (atlas : lent.Atlas) × IsLentOf held atlas × (text ≡ country_name db atlas n)
+-- of the number that plain numbers and bytes are
+abbrev pub IsToldOf : (tells : lent.Atlas → Reading → List ℕ → Type 0) → OwnedAtlas →
+    plain.Number → (bytes : List ℕ) → List ℕ → Type 0
+IsToldOf tells held x bytes text = (n : Reading) × IsNumber x bytes n × IsToldBy tells held n text
 
 -- it is the description of the number that plain numbers and bytes are
 abbrev pub IsDescriptionOf : List Metadata → OwnedAtlas → plain.Number → (bytes user : List ℕ) →
@@ -93,20 +87,19 @@ IsDescriptionOf db held x bytes user as_it_stands text =
 -- its carrier
 abbrev pub IsCarrierOf : List Metadata → OwnedAtlas → plain.Number → (bytes : List ℕ) →
     (as_it_stands : ℕ) → List ℕ → Type 0
-IsCarrierOf db held x bytes as_it_stands text =
-    (n : Reading) × IsNumber x bytes n × IsCarrierBy db held n as_it_stands text
+IsCarrierOf db held x bytes as_it_stands text = IsToldOf (λ atlas n text. IsAsAsked as_it_stands
+    (IsCarrierByKind db atlas n text) (IsCarrier atlas (digits_of n) text)) held x bytes text
 
 -- its carrier that is safe to show
 abbrev pub IsSafeCarrierOf : List Metadata → OwnedAtlas → plain.Number → (bytes : List ℕ) →
     List ℕ → Type 0
-IsSafeCarrierOf db held x bytes text =
-    (n : Reading) × IsNumber x bytes n × IsSafeCarrierBy db held n text
+IsSafeCarrierOf db held x bytes text = IsToldOf (IsSafeCarrier db) held x bytes text
 
 -- the name of its country
 abbrev pub IsCountryOf : List Metadata → OwnedAtlas → plain.Number → (bytes : List ℕ) →
     List ℕ → Type 0
-IsCountryOf db held x bytes text =
-    (n : Reading) × IsNumber x bytes n × IsCountryBy db held n text
+IsCountryOf db held x bytes text = IsToldOf (λ atlas n text. text ≡ country_name db atlas n)
+    held x bytes text
 
 -- by a table of zones, these are the time zones of the number that plain numbers and bytes are
 abbrev pub AreZonesOf : List Metadata → List Entry → plain.Number → (bytes : List ℕ) →

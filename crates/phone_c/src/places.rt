@@ -16,13 +16,15 @@ pub mod descriptions;
 pub mod handle;
 pub mod opening;
 pub mod owned;
+pub mod told;
 pub mod zones;
 
-use crate::places::carriers::{carrier, safe_carrier};
-use crate::places::country::country_name;
+use crate::places::carriers::{Carrier, SafeCarrier};
+use crate::places::country::Country;
 use crate::places::descriptions::description;
 use crate::places::handle::{AtlasHandle, close_atlas, put_atlas};
 use crate::places::opening::open_atlas;
+use crate::places::told::told;
 use crate::places::zones::time_zones;
 use phone_c_base::handle::{Handle, put, take};
 use phone_c_base::number::Number;
@@ -197,16 +199,9 @@ pub extern "C" fn phone_carrier(
     let Some(opened) = take(alloc, handle) else {
         return CLOSED;
     };
-    let status = carrier(
-        alloc,
-        opened.database(),
-        atlas,
-        number,
-        bytes,
-        as_it_stands,
-        out,
-        wrote,
-    );
+    let asked = Carrier { as_it_stands };
+    let database = opened.database();
+    let status = told(&asked, alloc, database, atlas, number, bytes, out, wrote);
     put(alloc, handle, opened);
     status
 }
@@ -245,7 +240,17 @@ pub extern "C" fn phone_safe_carrier(
     let Some(opened) = take(alloc, handle) else {
         return CLOSED;
     };
-    let status = safe_carrier(alloc, opened.database(), atlas, number, bytes, out, wrote);
+    let database = opened.database();
+    let status = told(
+        &SafeCarrier,
+        alloc,
+        database,
+        atlas,
+        number,
+        bytes,
+        out,
+        wrote,
+    );
     put(alloc, handle, opened);
     status
 }
@@ -284,7 +289,8 @@ pub extern "C" fn phone_country_name(
     let Some(opened) = take(alloc, handle) else {
         return CLOSED;
     };
-    let status = country_name(alloc, opened.database(), atlas, number, bytes, out, wrote);
+    let database = opened.database();
+    let status = told(&Country, alloc, database, atlas, number, bytes, out, wrote);
     put(alloc, handle, opened);
     status
 }
