@@ -11,10 +11,11 @@ use Rattle.phone_languages.specs.declared.fault.LineFault.TheVariants as fault
 use Rattle.phone_languages.specs.declared.fault.NamesError.{NamesError}
 use Rattle.phone_languages.specs.declared.fault.NamesError.TheVariants as error
 
--- the id of the region that has a name, and its text
+-- the id of the region that has a name
 abbrev pub id_of : Name → List ℕ
 id_of e = string_bytes e.id
 
+-- the text of a name
 abbrev pub text_of : Name → List ℕ
 text_of e = string_bytes e.text
 

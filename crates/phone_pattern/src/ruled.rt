@@ -95,10 +95,10 @@ impl Ruled {
 /// How many templates are kept: national prefixes are few, five with none in today's table.
 const SLOTS: usize = 5;
 
-/// Keeps the templates of national text that a layout made first for no carrier, one a national
-/// prefix, for as long as the layout is there. Each is set once, so that several threads may read
-/// it at a time. Of what a cell holds nothing is known, so each use names the texts of which the
-/// template is to be made, and one of other texts doesn't serve.
+/// Keeps the templates of national text that a layout made first for no carrier, for as long as the
+/// layout is there: one a national prefix, or twice where two threads make the same at a time. Each
+/// place is set once, so that several threads may read it at a time. Of what it holds nothing is
+/// known, so each use names the texts of which the template is to be made; no other one serves.
 pub struct KeptRuled {
     alloc: Global,
     slots: [OnceBox<Ruled>; SLOTS],
