@@ -1,11 +1,11 @@
 //! The reading of a text as a phone number, by libphonenumber's rules.
 ghost use Rattle.std.specs.Prelude.{◌≡◌, ◌⊎◌, Err, chars};
 ghost use Rattle.std.specs.Option.{option_copied};
-ghost use Rattle.phone_library.specs.Readings.{ReadsByLibrary};
+ghost use Rattle.phone_library.specs.Readings.{ReadsByLibrary, reading_under};
 ghost use Rattle.phone_read.specs.Hints.{hinted};
 
 use crate::reading::reading_under;
-use phone_library_text::read_written;
+use phone_library_text::{WrittenNumber, read_written};
 use phone_plans::{Plans, Territory};
 use phone_values::country::Id;
 use phone_values::{ParseError, Reading};
@@ -27,22 +27,27 @@ pub fn parse(database: &Plans, hint: Option<Id>, text: &str) -> Result<PhoneNumb
     ensures { (result ≡ Err ParseError.Memory) ⊎
         ReadsByLibrary database.now hint (chars text.now) result }
 {
+    let number = read_written(database.allocator(), text)?;
+    parse_written(database, hint, number)
+}
+
+/// The number that is written so, under a hint, as [`parse`] reads it from the text that it is
+/// written in; refused as there. What was read of one text may be parsed under several hints.
+pub fn parse_written(
+    database: &Plans,
+    hint: Option<Id>,
+    number: WrittenNumber,
+) -> Result<PhoneNumber, ParseError>
+    ensures { (result ≡ Err ParseError.Memory) ⊎
+        (result ≡ reading_under database.now (hinted database.now hint) number) }
+{
     let Reading {
         code,
         national,
         extension,
         carrier,
-    } = read(database, hint, text)?;
+    } = reading_under(database, hint_territory(database, hint), number)?;
     Ok(PhoneNumber::from_parts(code, national, extension, carrier))
-}
-
-/// The parts of the number that a text is read as.
-fn read(database: &Plans, hint: Option<Id>, text: &str) -> Result<Reading, ParseError>
-    ensures { (result ≡ Err ParseError.Memory) ⊎
-        ReadsByLibrary database.now hint (chars text.now) result }
-{
-    let number = read_written(database.allocator(), text)?;
-    reading_under(database, hint_territory(database, hint), number)
 }
 
 /// The territory of the hint: the last record with its id.

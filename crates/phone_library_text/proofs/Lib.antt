@@ -13,6 +13,7 @@ pub mod NoDigits
 pub mod NumbersIn
 pub mod Outers
 pub mod Partings
+pub mod PlainNumbers
 pub mod PlainWritten
 pub mod Searches
 pub mod Signed

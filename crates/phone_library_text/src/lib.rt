@@ -12,6 +12,7 @@ pub mod laws;
 mod letters;
 mod number_text;
 mod places;
+mod plain;
 mod sets;
 mod viable;
 mod written;

@@ -1,5 +1,6 @@
 //! How a number is written in a text.
-ghost use Rattle.std.specs.Prelude.{◌≡◌, ◌⊎◌, ◌<◌, ◌↔◌, Err, IfOk, IfErr, IsTrue, chars, length};
+ghost use Rattle.std.specs.Prelude.{◌≡◌, ◌⊎◌, ◌<◌, ◌≤◌, ◌↔◌, None, Ok, Err, IfOk, IfErr, IsTrue};
+ghost use Rattle.std.specs.Prelude.{chars, length};
 ghost use Rattle.std.specs.Prelude.{option_map, encode_utf8_all};
 ghost use Rattle.phone_chars.specs.Characters.{is_plus};
 ghost use Rattle.phone_parts.specs.Texts.{begins};
@@ -9,6 +10,7 @@ ghost use Rattle.phone_library_text.specs.Written.{IsWritten, IsWrittenIn, most_
 
 use crate::letters::digits_in;
 use crate::number_text::number_text;
+use crate::plain::{PlainNumber, plain_number};
 use crate::viable::viable_parts;
 use phone_base::Text;
 use phone_base::results::{in_place_of, zip};
@@ -42,6 +44,33 @@ pub fn read_written(alloc: Global, text: &str) -> Result<WrittenNumber, ParseErr
     if is_too_long(text) {
         return Err(ParseError::TooLong);
     }
+    match plain_number(text) {
+        Some(number) => written_plain(alloc, number),
+        None => read_marked(alloc, text),
+    }
+}
+
+/// How a number of digits alone is written.
+fn written_plain(alloc: Global, number: PlainNumber<'_>) -> Result<WrittenNumber, ParseError>
+    ensures { (result ≡ Err ParseError.Memory) ⊎ (result ≡ Ok (record {
+      has_plus = number.entry.has_plus;
+      digits = number.entry.digits.now;
+      extension = None;
+    })) }
+{
+    let PlainNumber { has_plus, digits } = number;
+    Ok(WrittenNumber {
+        has_plus,
+        digits: Text::from(String::from_str(alloc, digits)?),
+        extension: None,
+    })
+}
+
+/// How a number is written in a text that isn't too long.
+fn read_marked(alloc: Global, text: &str) -> Result<WrittenNumber, ParseError>
+    ensures { length (chars text.now) ≤ most_characters → (result ≡ Err ParseError.Memory) ⊎
+        IsWritten (chars text.now) result }
+{
     let Some(number) = number_text(alloc, text)? else {
         return Err(ParseError::NoNumber);
     };
