@@ -6,6 +6,7 @@ use Rattle.phone_values.specs.declared.error.ParseError.TheVariants.{Memory}
 use Rattle.phone_values.specs.declared.reading.Reading.{Reading}
 use Rattle.phone_library.specs.Readings.{ReadsByLibrary}
 use Rattle.phone_records.specs.declared.loader.Metadata.{Metadata}
+use Rattle.phone_read.specs.Hints.{hinted}
 use Rattle.phone_read.proofs.Results.{ok_again}
 use Rattle.phone_further.specs.Examples
 use Rattle.phone_further.specs.Examples.{AnswersExample}
@@ -34,14 +35,21 @@ module _ (db : List Metadata) (hint : Option Id) (text : List ℕ) where
   refusal_so e (inl f) = inl (ap (λ d. Err d) (memory_alone e f))
   refusal_so e (inr h) = inr (Examples.refused text e h)
 
-module _ {E : Type 0} (db : List Metadata) (region : Id) (t : List ℕ) where
-  pub invalid_so : (n : Reading) (x : Result (Option Reading) E) → IsMemory (Ok n) ⊎ ReadsByLibrary db (Some region) t (Ok n) →
-      IfOk x (λ found. found ≡ if_invalid db (Ok n)) → IfOk x (IsInvalidRead db region t)
-  invalid_so n x (inl e) f = cc
-  invalid_so n x (inr h) f = ok_again x _ _ (λ found e. (Ok n, h, e)) f
+module _ {E : Type 0} (db : List Metadata) (m : Option Metadata) (t : List ℕ) where
+  -- under each region whose territory this is
+  abbrev pub ReadsUnder : Result Reading ParseError → Type 0
+  ReadsUnder r = (region : Id) → m ≡ hinted db (Some region) → ReadsByLibrary db (Some region) t r
 
-  pub none_so : (e : ParseError) (x : Result (Option Reading) E) → IsMemory (Err e) ⊎ ReadsByLibrary db (Some region) t (Err e) →
-      IfOk x (λ found. found ≡ None) → OnOk x (¬ (e ≡ Memory)) → IfOk x (IsInvalidRead db region t)
+  abbrev pub IsInvalidUnder : Option Reading → Type 0
+  IsInvalidUnder found = (region : Id) → m ≡ hinted db (Some region) → IsInvalidRead db region t found
+
+  pub invalid_so : (n : Reading) (x : Result (Option Reading) E) → IsMemory (Ok n) ⊎ ReadsUnder (Ok n) →
+      IfOk x (λ found. found ≡ if_invalid db (Ok n)) → IfOk x IsInvalidUnder
+  invalid_so n x (inl e) f = cc
+  invalid_so n x (inr h) f = ok_again x _ _ (λ found e region is. (Ok n, h region is, e)) f
+
+  pub none_so : (e : ParseError) (x : Result (Option Reading) E) → IsMemory (Err e) ⊎ ReadsUnder (Err e) →
+      IfOk x (λ found. found ≡ None) → OnOk x (¬ (e ≡ Memory)) → IfOk x IsInvalidUnder
   none_so e (Ok found) (inl f) g no_memory = absurd (no_memory (memory_alone e f))
-  none_so e (Ok found) (inr h) g no_memory = (Err e, h, g)
+  none_so e (Ok found) (inr h) g no_memory = λ region is. (Err e, h region is, g)
   none_so e (Err d) h g no_memory = g

@@ -1,13 +1,16 @@
 //! An example of a number that isn't valid.
-ghost use Rattle.std.specs.Prelude.{◌≡◌, IfOk, None, Ok, OnOk, chars, length};
+ghost use Rattle.std.specs.Prelude.{◌≡◌, ◌⊎◌, Err, IfOk, None, Ok, OnOk, Some, chars, length};
 ghost use Rattle.std.specs.Option.{option_copied};
+ghost use Rattle.phone_library.specs.Readings.{ReadsByLibrary};
+ghost use Rattle.phone_read.specs.Hints.{hinted};
 ghost use Rattle.phone_further.specs.Invalid.{IsFirstInvalid, IsInvalidExample, IsInvalidRead};
 ghost use Rattle.phone_further.specs.Invalid.{fixed_line_example, if_invalid, is_short};
 
 use crate::examples::example_in;
 use phone_chars::cuts::split_last;
-use phone_library::{is_valid, parse};
-use phone_plans::Plans;
+use phone_library::{hinted, is_valid, parse_written};
+use phone_library_text::read_written;
+use phone_plans::{Plans, Territory};
 use phone_values::country::Id;
 use phone_values::{ParseError, Type};
 use phonenumber::PhoneNumber;
@@ -45,12 +48,13 @@ fn first_invalid(
 ) -> Result<Option<PhoneNumber>, AllocError>
     ensures { IfOk result (IsFirstInvalid database.now region (chars text.now)) }
 {
+    let territory = hinted(database, Some(region));
     let mut rest = text;
     while let Some((front, _)) = split_last(rest) {
         if is_short(front) {
             return Ok(None);
         }
-        let found = invalid_read(database, region, front)?;
+        let found = invalid_read(database, territory, front)?;
         if found.is_some() {
             return Ok(found);
         }
@@ -73,15 +77,35 @@ fn count(text: &str) -> usize
     text.chars().count()
 }
 
-/// What digits are read as under a region, where that is a number that isn't valid. Refused only
-/// for memory.
-fn invalid_read(database: &Plans, region: Id, text: &str) -> Result<Option<PhoneNumber>, AllocError>
-    ensures { IfOk result (IsInvalidRead database.now region (chars text.now)) }
+/// What digits are read as under a hint's territory, where that is a number that isn't valid.
+/// Refused only for memory.
+fn invalid_read(
+    database: &Plans,
+    territory: Option<&Territory>,
+    text: &str,
+) -> Result<Option<PhoneNumber>, AllocError>
+    ensures { IfOk result (λ found. (region : Id) → option_copied territory.entry ≡
+        hinted database.now (Some region) → IsInvalidRead database.now region (chars text.now)
+        found) }
 {
-    match parse(database, Some(region), text) {
+    match read_under(database, territory, text) {
         Ok(number) => if_invalid(database, number),
         Err(error) => none(error),
     }
+}
+
+/// What digits are read as under a hint's territory.
+fn read_under(
+    database: &Plans,
+    territory: Option<&Territory>,
+    text: &str,
+) -> Result<PhoneNumber, ParseError>
+    ensures { (result ≡ Err ParseError.Memory) ⊎ ((region : Id) → option_copied territory.entry ≡
+        hinted database.now (Some region) →
+        ReadsByLibrary database.now (Some region) (chars text.now) result) }
+{
+    let written = read_written(database.allocator(), text)?;
+    parse_written(database, territory, written)
 }
 
 /// A number, where it isn't valid. Refused only for memory.

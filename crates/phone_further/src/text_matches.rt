@@ -1,13 +1,15 @@
 //! How like a number and a text are, and two texts, by what two numbers are.
-ghost use Rattle.std.specs.Prelude.{◌≡◌, ◌⊎◌, Err, IfOk, None, Ok, OnOk, Result, chars};
+ghost use Rattle.std.specs.Prelude.{◌≡◌, ◌⊎◌, ℕ, Err, IfOk, List, None, Ok, OnOk, Result};
+ghost use Rattle.std.specs.Prelude.{chars};
 ghost use Rattle.phone_library.specs.Readings.{ReadsByLibrary};
+ghost use Rattle.phone_library_text.specs.Written.{IsWritten};
 ghost use Rattle.phone_values.specs.declared.error.ParseError.{ParseError as Refusal};
 ghost use Rattle.phone_values.specs.declared.reading.Reading.{Reading};
 ghost use Rattle.phone_further.specs.TextMatches.{AreBareMatch, AreTextsMatch, IsBare, IsBeside};
 ghost use Rattle.phone_further.specs.TextMatches.{IsTextMatch, bare_number, match_read};
 
 use crate::likeness::Likeness;
-use phone_library::{national_number, parse};
+use phone_library::{hinted, national_number, parse, parse_written};
 use phone_library_text::{WrittenNumber, read_written};
 use phone_plans::Plans;
 use phone_questions::NumberMatch;
@@ -29,15 +31,53 @@ pub fn match_text<L: Likeness>(
     ensures { IfOk result (λ m. IsTextMatch (L.like likeness.now)
         (L.guessed likeness.now) database.now number.now (chars text.now) m) }
 {
-    match parse(database, None, text) {
+    match read_written(database.allocator(), text) {
+        Ok(written) => match_written(likeness, database, number, text, written),
+        Err(error) => not_a_number(error),
+    }
+}
+
+/// How like a number is to one that is written in a text.
+fn match_written<L: Likeness>(
+    likeness: &L,
+    database: &Plans,
+    number: &PhoneNumber,
+    text: &str,
+    written: WrittenNumber,
+) -> Result<NumberMatch, AllocError>
+    ensures { IsWritten (chars text.now) (Ok written) → IfOk result (λ m.
+        IsTextMatch (L.like likeness.now) (L.guessed likeness.now) database.now number.now
+        (chars text.now) m) }
+{
+    if !written.has_plus {
+        return match_beside(likeness, database, number, written);
+    }
+    match parse_written(database, hinted(database, None), written) {
         Ok(read) => likeness.match_numbers(database.allocator(), number, &read),
         Err(error) => {
             if error == ParseError::InvalidCountryCode {
-                match_beside(likeness, database, number, text)
+                match_again(likeness, database, number, text)
             } else {
                 not_a_number(error)
             }
         }
+    }
+}
+
+/// How like a number and a text without a calling code are, the text read once more.
+fn match_again<L: Likeness>(
+    likeness: &L,
+    database: &Plans,
+    number: &PhoneNumber,
+    text: &str,
+) -> Result<NumberMatch, AllocError>
+    ensures { IfOk result (λ m. (r : Result Reading Refusal) ×
+        IsBeside database.now number.now.code.value (chars text.now) r ×
+        (m ≡ match_read (L.guessed likeness.now) number.now r)) }
+{
+    match read_written(database.allocator(), text) {
+        Ok(written) => match_beside(likeness, database, number, written),
+        Err(error) => not_a_number(error),
     }
 }
 
@@ -54,11 +94,32 @@ pub fn match_texts<L: Likeness>(
     ensures { IfOk result (λ m. AreTextsMatch (L.like likeness.now) (L.guessed likeness.now)
         database.now (chars a.now) (chars b.now) m) }
 {
-    match parse(database, None, a) {
+    match read_written(database.allocator(), a) {
+        Ok(first) => match_first(likeness, database, a, first, b),
+        Err(error) => not_a_number(error),
+    }
+}
+
+/// How like a number that is written in a text and another text are.
+fn match_first<L: Likeness>(
+    likeness: &L,
+    database: &Plans,
+    a: &str,
+    first: WrittenNumber,
+    b: &str,
+) -> Result<NumberMatch, AllocError>
+    ensures { IsWritten (chars a.now) (Ok first) → IfOk result (λ m.
+        AreTextsMatch (L.like likeness.now) (L.guessed likeness.now) database.now (chars a.now)
+        (chars b.now) m) }
+{
+    if !first.has_plus {
+        return match_uncoded(likeness, database, first, b);
+    }
+    match parse_written(database, hinted(database, None), first) {
         Ok(number) => match_text(likeness, database, &number, b),
         Err(error) => {
             if error == ParseError::InvalidCountryCode {
-                match_uncoded(likeness, database, a, b)
+                match_unlisted(likeness, database, a, b)
             } else {
                 not_a_number(error)
             }
@@ -66,8 +127,8 @@ pub fn match_texts<L: Likeness>(
     }
 }
 
-/// How like two texts are of which the first tells no calling code.
-fn match_uncoded<L: Likeness>(
+/// How like two texts are of which the first tells no listed calling code, read once more.
+fn match_unlisted<L: Likeness>(
     likeness: &L,
     database: &Plans,
     a: &str,
@@ -78,29 +139,48 @@ fn match_uncoded<L: Likeness>(
         AreTextsMatch (L.like likeness.now) (L.guessed likeness.now) database.now (chars a.now)
         (chars b.now) m) }
 {
+    match read_written(database.allocator(), a) {
+        Ok(first) => match_uncoded(likeness, database, first, b),
+        Err(error) => not_a_number(error),
+    }
+}
+
+/// How like a number that is written without a calling code and a text are.
+fn match_uncoded<L: Likeness>(
+    likeness: &L,
+    database: &Plans,
+    first: WrittenNumber,
+    b: &str,
+) -> Result<NumberMatch, AllocError>
+    ensures { IfOk result (λ m. (t : List ℕ) → IsWritten t (Ok first) →
+        ReadsByLibrary database.now None t (Err ParseError.InvalidCountryCode) →
+        AreTextsMatch (L.like likeness.now) (L.guessed likeness.now) database.now t
+        (chars b.now) m) }
+{
     match parse(database, None, b) {
-        Ok(number) => match_text(likeness, database, &number, a),
+        Ok(number) => match_beside(likeness, database, &number, first),
         Err(error) => {
             if error == ParseError::InvalidCountryCode {
-                match_bare(likeness, database, a, b)
+                match_bare(likeness, database, first, b)
             } else {
+                drop(first);
                 not_a_number(error)
             }
         }
     }
 }
 
-/// How like two texts without a calling code are.
+/// How like two numbers are that are written without a calling code, the second in a text.
 fn match_bare<L: Likeness>(
     likeness: &L,
     database: &Plans,
-    a: &str,
+    first: WrittenNumber,
     b: &str,
 ) -> Result<NumberMatch, AllocError>
-    ensures { IfOk result (λ m.
-        AreBareMatch (L.like likeness.now) (chars a.now) (chars b.now) m) }
+    ensures { IfOk result (λ m. (t : List ℕ) → IsWritten t (Ok first) →
+        AreBareMatch (L.like likeness.now) t (chars b.now) m) }
 {
-    match read_bare(database, a) {
+    match bare_number(first) {
         Ok(number) => match_second(likeness, database, &number, b),
         Err(error) => not_a_number(error),
     }
@@ -133,32 +213,36 @@ fn not_a_number(error: ParseError) -> Result<NumberMatch, AllocError>
     }
 }
 
-/// How like a number and a text without a calling code are.
+/// How like a number is to one that is written without a calling code.
 fn match_beside<L: Likeness>(
     likeness: &L,
     database: &Plans,
     number: &PhoneNumber,
-    text: &str,
+    written: WrittenNumber,
 ) -> Result<NumberMatch, AllocError>
-    ensures { IfOk result (λ m. (r : Result Reading Refusal) ×
-        IsBeside database.now number.now.code.value (chars text.now) r ×
+    ensures { IfOk result (λ m. (t : List ℕ) → IsWritten t (Ok written) →
+        (r : Result Reading Refusal) × IsBeside database.now number.now.code.value t r ×
         (m ≡ match_read (L.guessed likeness.now) number.now r)) }
 {
-    match read_beside(database, number.code().value(), text) {
+    match read_beside(database, number.code().value(), written) {
         Ok(read) => likeness.match_beside(database.allocator(), number, &read),
         Err(error) => not_a_number(error),
     }
 }
 
-/// What a text without a calling code is beside a number of this code: as it is read under the main
-/// region of the code, where that is listed; else as it stands. Refused as reading refuses it.
-fn read_beside(database: &Plans, code: u16, text: &str) -> Result<PhoneNumber, ParseError>
-    ensures { (result ≡ Err ParseError.Memory) ⊎
-        IsBeside database.now code (chars text.now) result }
+/// What is written without a calling code is beside a number of this code: as it is read under the
+/// main region of the code, where that is listed; else as it stands. Refused as reading refuses it.
+fn read_beside(
+    database: &Plans,
+    code: u16,
+    written: WrittenNumber,
+) -> Result<PhoneNumber, ParseError>
+    ensures { (result ≡ Err ParseError.Memory) ⊎ ((t : List ℕ) → IsWritten t (Ok written) →
+        IsBeside database.now code t result) }
 {
     match database.first_by_code(&code) {
-        Some(territory) => parse(database, territory.region(), text),
-        None => read_bare(database, text),
+        Some(main) => parse_written(database, hinted(database, main.region()), written),
+        None => bare_number(written),
     }
 }
 

@@ -28,30 +28,31 @@ pub fn parse(database: &Plans, hint: Option<Id>, text: &str) -> Result<PhoneNumb
         ReadsByLibrary database.now hint (chars text.now) result }
 {
     let number = read_written(database.allocator(), text)?;
-    parse_written(database, hint, number)
+    parse_written(database, hinted(database, hint), number)
 }
 
-/// The number that is written so, under a hint, as [`parse`] reads it from the text that it is
-/// written in; refused as there. What was read of one text may be parsed under several hints.
+/// The number that is written so, under the territory of a hint, as [`parse`] reads it from the
+/// text that it is written in; refused as there. What was read of one text may be parsed under
+/// several hints, and several numbers under one.
 pub fn parse_written(
     database: &Plans,
-    hint: Option<Id>,
+    territory: Option<&Territory>,
     number: WrittenNumber,
 ) -> Result<PhoneNumber, ParseError>
     ensures { (result ≡ Err ParseError.Memory) ⊎
-        (result ≡ reading_under database.now (hinted database.now hint) number) }
+        (result ≡ reading_under database.now (option_copied territory.entry) number) }
 {
     let Reading {
         code,
         national,
         extension,
         carrier,
-    } = reading_under(database, hint_territory(database, hint), number)?;
+    } = reading_under(database, territory, number)?;
     Ok(PhoneNumber::from_parts(code, national, extension, carrier))
 }
 
-/// The territory of the hint: the last record with its id.
-fn hint_territory(database: &Plans, hint: Option<Id>) -> Option<&Territory>
+/// The territory of a hint: the last record with its id.
+pub fn hinted(database: &Plans, hint: Option<Id>) -> Option<&Territory>
     ensures { option_copied result ≡ hinted database.now hint }
 {
     match hint {

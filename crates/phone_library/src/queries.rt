@@ -1,6 +1,6 @@
 //! What a database tells of a number, by libphonenumber's rules: its region, its kind, and whether
 //! it is valid.
-ghost use Rattle.std.specs.Prelude.{◌≡◌, IfOk};
+ghost use Rattle.std.specs.Prelude.{◌≡◌, IfOk, string_bytes};
 ghost use Rattle.std.specs.Option.{option_and_then, option_map_or};
 ghost use Rattle.phone_values.specs.Ids.{id_of};
 ghost use Rattle.phone_values.specs.Numbers.{text_of};
@@ -15,11 +15,11 @@ use crate::homes::{Home, home_in};
 use crate::kinds::{is_known, kind_in};
 use itoa::Buffer;
 use phone_plans::Plans;
-use phone_print::written::text_of_value;
-use phone_values::Type;
+use phone_print::written::ROOM;
 use phone_values::country::Id;
+use phone_values::{NationalNumber, Type};
 use phonenumber::PhoneNumber;
-use std::alloc::AllocError;
+use std::alloc::{AllocError, Global};
 
 /// What a database tells of a number.
 #[derive(Clone, Copy, PartialEq, Eq, Debug)]
@@ -53,7 +53,7 @@ fn facts_told(database: &Plans, number: &PhoneNumber) -> Result<NumberFacts, All
         let digits = buffer.format(national.value());
         return facts_in(database, number.code().value(), digits);
     }
-    let digits = text_of_value(database.allocator(), format_args!("{national}"))?;
+    let digits = digits_of(database.allocator(), &national)?;
     facts_in(database, number.code().value(), digits.as_str())
 }
 
@@ -85,8 +85,22 @@ pub fn region(database: &Plans, number: &PhoneNumber) -> Result<Option<Id>, Allo
         let digits = buffer.format(national.value());
         return region_in(database, number.code().value(), digits);
     }
-    let digits = text_of_value(database.allocator(), format_args!("{national}"))?;
+    let digits = digits_of(database.allocator(), &national)?;
     region_in(database, number.code().value(), digits.as_str())
+}
+
+/// The digits of a national number, its leading zeros among them, in a text of their own. Refused
+/// only for memory.
+fn digits_of(alloc: Global, national: &NationalNumber) -> Result<String, AllocError>
+    ensures { IfOk result (λ digits. string_bytes digits ≡ text_of national.now) }
+{
+    let mut digits = String::with_capacity(alloc, ROOM)?;
+    for _i in 0..national.zeros() {
+        digits.push('0')?;
+    }
+    let mut buffer = Buffer::new();
+    digits.push_str(buffer.format(national.value()))?;
+    Ok(digits)
 }
 
 /// The region of digits of a calling code.

@@ -16,12 +16,12 @@ pub returns-then-is_some : goal.returns-then-is_some
 returns-then-is_some c =
     c.loop-front.invariant.1 c.in_ok-found.found
     (found_so c.args.database.now c.args.region (chars c.loop-front.rest.now) (chars c.in-Some.front.now) c.in-Some.field-0-1 c.in-Some.ensures.read
-    c.in_ok-found.found (search rules) (sym c.is_short.ensures ∙ c.if-is_short.false) c.in_ok-found.ensures)
+    c.in_ok-found.found (search rules) (sym c.is_short.ensures ∙ c.if-is_short.false) (c.in_ok-found.ensures c.args.region c.hinted-territory.ensures))
 
 pub loop-front-preserved : goal.loop-front-preserved
 loop-front-preserved c =
     let tried = shorter_so c.args.database.now c.args.region (chars c.loop-front.rest.now) (chars c.in-Some.front.now) c.in-Some.field-0-1
-    c.in-Some.ensures.read c.in_ok-found.found (search rules) (sym c.is_short.ensures ∙ c.if-is_short.false) c.in_ok-found.ensures in
+    c.in-Some.ensures.read c.in_ok-found.found (search rules) (sym c.is_short.ensures ∙ c.if-is_short.false) (c.in_ok-found.ensures c.args.region c.hinted-territory.ensures) in
     (search rules, λ found h. c.loop-front.invariant.1 found (tried found h))
 
 pub returns : goal.returns

@@ -1,27 +1,17 @@
-use Rattle.std.proofs.Common.{◌≡◌, chars, arith}
-use Rattle.phone_values.specs.declared.error.ParseError.TheVariants.{InvalidCountryCode}
-use Rattle.phone_further.proofs.TextReads.{beside_so, read_so, refused_so}
+use Rattle.std.proofs.Common.{chars}
+use Rattle.phone_further.proofs.TextReads.{is_written, other_refusal, refused_reads, refused_so}
+use Rattle.std.specs.Prelude.{None}
 use Rattle.phone_further.proofs.text_matches.match_text.Goals as goal
 
 pub returns-in-Ok : goal.returns-in-Ok
-returns-in-Ok g c =
-    let like = g.L.Likeness.like c.args.likeness.now in
-    let guessed = g.L.Likeness.guessed c.args.likeness.now in
-    read_so like guessed c.args.database.now c.args.number.now (chars c.args.text.now) c.in-Ok.read c.match_numbers.result c.in-Ok.ensures c.match_numbers.ensures
+returns-in-Ok g c = c.match_written.ensures (is_written (chars c.args.text.now) c.in-Ok.written c.in-Ok.ensures)
 
-pub returns-then-eq : goal.returns-then-eq
-returns-then-eq g c =
+pub returns-in-Err : goal.returns-in-Err
+returns-in-Err g c =
     let like = g.L.Likeness.like c.args.likeness.now in
     let guessed = g.L.Likeness.guessed c.args.likeness.now in
+    let db = c.args.database.now in
+    let t = chars c.args.text.now in
     let error = c.in-Err.error in
-    let why : error ≡ InvalidCountryCode = (let x = c.eq.ensures in let y = c.if-eq.true in grind arith) in
-    beside_so like guessed c.args.database.now c.args.number.now (chars c.args.text.now) error c.match_beside.result why c.in-Err.ensures c.match_beside.ensures
-
-pub returns-else-eq : goal.returns-else-eq
-returns-else-eq g c =
-    let like = g.L.Likeness.like c.args.likeness.now in
-    let guessed = g.L.Likeness.guessed c.args.likeness.now in
-    let error = c.in-Err.error in
-    let other : ¬ (error ≡ InvalidCountryCode) = (λ e. let x = c.eq.ensures in let y = c.if-eq.false in grind arith) in
-    refused_so like guessed c.args.database.now c.args.number.now (chars c.args.text.now) error c.not_a_number.result other c.in-Err.ensures
+    refused_so like guessed db c.args.number.now t error c.not_a_number.result (other_refusal t error c.in-Err.ensures) (refused_reads t error db None c.in-Err.ensures)
     c.not_a_number.ensures.number c.not_a_number.ensures.memory

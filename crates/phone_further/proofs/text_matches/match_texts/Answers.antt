@@ -1,27 +1,16 @@
-use Rattle.std.proofs.Common.{◌≡◌, chars, arith}
-use Rattle.phone_values.specs.declared.error.ParseError.TheVariants.{InvalidCountryCode}
-use Rattle.phone_further.proofs.TextReads.{first_refused_so, first_so, uncoded_so}
+use Rattle.std.proofs.Common.{None, chars}
+use Rattle.phone_further.proofs.TextReads.{first_refused_so, is_written, other_refusal, refused_reads}
 use Rattle.phone_further.proofs.text_matches.match_texts.Goals as goal
 
 pub returns-in-Ok : goal.returns-in-Ok
-returns-in-Ok g c =
-    let like = g.L.Likeness.like c.args.likeness.now in
-    let guessed = g.L.Likeness.guessed c.args.likeness.now in
-    first_so like guessed c.args.database.now (chars c.args.a.now) (chars c.args.b.now) c.in-Ok.number c.match_text.result c.in-Ok.ensures c.match_text.ensures
+returns-in-Ok g c = c.match_first.ensures (is_written (chars c.args.a.now) c.in-Ok.first c.in-Ok.ensures)
 
-pub returns-then-eq : goal.returns-then-eq
-returns-then-eq g c =
+pub returns-in-Err : goal.returns-in-Err
+returns-in-Err g c =
     let like = g.L.Likeness.like c.args.likeness.now in
     let guessed = g.L.Likeness.guessed c.args.likeness.now in
+    let db = c.args.database.now in
+    let t = chars c.args.a.now in
     let error = c.in-Err.error in
-    let why : error ≡ InvalidCountryCode = (let x = c.eq.ensures in let y = c.if-eq.true in grind arith) in
-    uncoded_so like guessed c.args.database.now (chars c.args.a.now) (chars c.args.b.now) error c.match_uncoded.result why c.in-Err.ensures c.match_uncoded.ensures
-
-pub returns-else-eq : goal.returns-else-eq
-returns-else-eq g c =
-    let like = g.L.Likeness.like c.args.likeness.now in
-    let guessed = g.L.Likeness.guessed c.args.likeness.now in
-    let error = c.in-Err.error in
-    let other : ¬ (error ≡ InvalidCountryCode) = (λ e. let x = c.eq.ensures in let y = c.if-eq.false in grind arith) in
-    first_refused_so like guessed c.args.database.now (chars c.args.a.now) (chars c.args.b.now) error c.not_a_number.result other c.in-Err.ensures
-    c.not_a_number.ensures.number c.not_a_number.ensures.memory
+    first_refused_so like guessed db t (chars c.args.b.now) error c.not_a_number.result (other_refusal t error c.in-Err.ensures)
+    (refused_reads t error db None c.in-Err.ensures) c.not_a_number.ensures.number c.not_a_number.ensures.memory

@@ -2,7 +2,7 @@ use Rattle.std.proofs.Common.{rules, ◌≡◌, inl, inr, ⊎_elim, Ok, Err, ap,
 use Rattle.std.specs.Str.{chars}
 use Rattle.phone_values.specs.declared.error.ParseError.TheVariants.{Memory}
 use Rattle.phone_library.specs.Readings
-use Rattle.phone_library.specs.Readings.{ReadsByLibrary}
+use Rattle.phone_library.specs.Readings.{ReadsByLibrary, reading_under}
 use Rattle.phone_library_text.specs.Written.{IsWritten}
 use Rattle.phone_library.proofs.parser.parse.Goals as goal
 
@@ -23,4 +23,6 @@ returns c =
     let t = chars c.args.text.now in
     let number = c.in_ok-number.number in
     let written : IsWritten t (Ok number) = ⊎_elim (λ f. absurd (not_both _ _ f)) (λ w. w) c.in_ok-number.ensures in
-    ⊎_elim (λ f. inl f) (λ f. inr (subst (ReadsByLibrary db c.args.hint t) (sym f) (Readings.written number written))) c.parse_written.ensures
+    ⊎_elim (λ f. inl f)
+    (λ f. inr (subst (ReadsByLibrary db c.args.hint t) (sym (f ∙ ap (λ m. reading_under db m number) c.hinted.ensures)) (Readings.written number written)))
+    c.parse_written.ensures
