@@ -35,7 +35,7 @@ module _ (db : List Metadata) (hint : Option Id) (text : List ℕ) where
   refusal_so e (inl f) = inl (ap (λ d. Err d) (memory_alone e f))
   refusal_so e (inr h) = inr (Examples.refused text e h)
 
-module _ {E : Type 0} (db : List Metadata) (m : Option Metadata) (t : List ℕ) where
+module _ (db : List Metadata) (m : Option Metadata) (t : List ℕ) where
   -- under each region whose territory this is
   abbrev pub ReadsUnder : Result Reading ParseError → Type 0
   ReadsUnder r = (region : Id) → m ≡ hinted db (Some region) → ReadsByLibrary db (Some region) t r
@@ -43,12 +43,12 @@ module _ {E : Type 0} (db : List Metadata) (m : Option Metadata) (t : List ℕ) 
   abbrev pub IsInvalidUnder : Option Reading → Type 0
   IsInvalidUnder found = (region : Id) → m ≡ hinted db (Some region) → IsInvalidRead db region t found
 
-  pub invalid_so : (n : Reading) (x : Result (Option Reading) E) → IsMemory (Ok n) ⊎ ReadsUnder (Ok n) →
+  pub invalid_so : {E : Type 0} (n : Reading) (x : Result (Option Reading) E) → IsMemory (Ok n) ⊎ ReadsUnder (Ok n) →
       IfOk x (λ found. found ≡ if_invalid db (Ok n)) → IfOk x IsInvalidUnder
   invalid_so n x (inl e) f = cc
   invalid_so n x (inr h) f = ok_again x _ _ (λ found e region is. (Ok n, h region is, e)) f
 
-  pub none_so : (e : ParseError) (x : Result (Option Reading) E) → IsMemory (Err e) ⊎ ReadsUnder (Err e) →
+  pub none_so : {E : Type 0} (e : ParseError) (x : Result (Option Reading) E) → IsMemory (Err e) ⊎ ReadsUnder (Err e) →
       IfOk x (λ found. found ≡ None) → OnOk x (¬ (e ≡ Memory)) → IfOk x IsInvalidUnder
   none_so e (Ok found) (inl f) g no_memory = absurd (no_memory (memory_alone e f))
   none_so e (Ok found) (inr h) g no_memory = λ region is. (Err e, h region is, g)

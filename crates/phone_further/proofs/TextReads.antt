@@ -167,11 +167,11 @@ module _ {E : Type 0} (like guessed : Reading → Reading → NumberMatch) (db :
       refused_as (IsUncodedMatch like guessed db t u) (ReadsByLibrary db None t) e x h (λ reads uncoded. TextMatches.first_refused e other reads) g no_memory
 
 -- the first of two texts is one in which a number is written without a code
-module _ {E : Type 0} (like guessed : Reading → Reading → NumberMatch) (db : List Metadata) (w : WrittenNumber) (u : List ℕ) where
+module _ (like guessed : Reading → Reading → NumberMatch) (db : List Metadata) (w : WrittenNumber) (u : List ℕ) where
   abbrev pub IsWrittenMatch : NumberMatch → Type 0
   IsWrittenMatch m = (t : List ℕ) → IsWritten t (Ok w) → IsUncodedMatch like guessed db t u m
 
-  pub second_so : (n : Reading) (x : Result NumberMatch E) → IsMemory (Ok n) ⊎ ReadsByLibrary db None u (Ok n) →
+  pub second_so : {E : Type 0} (n : Reading) (x : Result NumberMatch E) → IsMemory (Ok n) ⊎ ReadsByLibrary db None u (Ok n) →
       IfOk x (λ k. (t : List ℕ) → IsWritten t (Ok w) → (r : Result Reading ParseError) × IsBeside db n.code.value t r × (k ≡ match_read guessed n r)) →
       IfOk x IsWrittenMatch
   second_so n x (inl e) f = cc
@@ -179,28 +179,28 @@ module _ {E : Type 0} (like guessed : Reading → Reading → NumberMatch) (db :
       ok_again x _ _ (λ k g t is reads. let (r, b, e) = g t is in
       TextMatches.second n k reads h (subst (IsTextMatch like guessed db n t) (sym e) (TextMatches.beside r reads b))) f
 
-  pub neither_so : (e : ParseError) (x : Result NumberMatch E) → e ≡ InvalidCountryCode → IsMemory (Err e) ⊎ ReadsByLibrary db None u (Err e) →
+  pub neither_so : {E : Type 0} (e : ParseError) (x : Result NumberMatch E) → e ≡ InvalidCountryCode → IsMemory (Err e) ⊎ ReadsByLibrary db None u (Err e) →
       IfOk x (λ k. (t : List ℕ) → IsWritten t (Ok w) → AreBareMatch like t u k) → IfOk x IsWrittenMatch
   neither_so e x why (inl f) g = cc
   neither_so e x why (inr h) g =
       ok_again x _ _ (λ k bare t is reads. TextMatches.neither k reads (subst (λ (d : ParseError). ReadsByLibrary db None u (Err d)) why h) (bare t is)) g
 
-  pub second_refused_so : (e : ParseError) (x : Result NumberMatch E) → ¬ (e ≡ InvalidCountryCode) → IsMemory (Err e) ⊎ ReadsByLibrary db None u (Err e) →
+  pub second_refused_so : {E : Type 0} (e : ParseError) (x : Result NumberMatch E) → ¬ (e ≡ InvalidCountryCode) → IsMemory (Err e) ⊎ ReadsByLibrary db None u (Err e) →
       IfOk x (λ k. k ≡ NotANumber) → OnOk x (¬ (e ≡ Memory)) → IfOk x IsWrittenMatch
   second_refused_so e x other h g no_memory =
       refused_as IsWrittenMatch (ReadsByLibrary db None u) e x h (λ reads t is uncoded. TextMatches.second_refused e other uncoded reads) g no_memory
 
-module _ {E : Type 0} (like : Reading → Reading → NumberMatch) (w : WrittenNumber) (u : List ℕ) where
+module _ (like : Reading → Reading → NumberMatch) (w : WrittenNumber) (u : List ℕ) where
   abbrev pub IsBareMatch : NumberMatch → Type 0
   IsBareMatch m = (t : List ℕ) → IsWritten t (Ok w) → AreBareMatch like t u m
 
-  pub bare_so : (n : Reading) (x : Result NumberMatch E) → Ok n ≡ bare_number (Ok w) →
+  pub bare_so : {E : Type 0} (n : Reading) (x : Result NumberMatch E) → Ok n ≡ bare_number (Ok w) →
       IfOk x (λ k. (r : Result Reading ParseError) × IsBare u r × (k ≡ match_read like n r)) → IfOk x IsBareMatch
   bare_so n x read f =
       ok_again x _ _ (λ k (r, b, e) t is. subst (AreBareMatch like t u) (sym e)
       (TextMatches.both n r (record { written = Ok w; is_written = is; read = read }) b)) f
 
-  pub bare_refused_so : (e : ParseError) (x : Result NumberMatch E) → Err e ≡ bare_number (Ok w) → IfOk x (λ k. k ≡ NotANumber) → IfOk x IsBareMatch
+  pub bare_refused_so : {E : Type 0} (e : ParseError) (x : Result NumberMatch E) → Err e ≡ bare_number (Ok w) → IfOk x (λ k. k ≡ NotANumber) → IfOk x IsBareMatch
   bare_refused_so e x read g =
       ok_again x _ _ (λ k same t is. subst (AreBareMatch like t u) (sym same) (TextMatches.refused e (record { written = Ok w; is_written = is; read = read }))) g
 
@@ -219,16 +219,16 @@ module _ {E : Type 0} (Reads : Result Reading ParseError → Type 0) (answer : R
   unmatched_so e x none h g no_memory = refused_as (IsMatchOf Reads answer) Reads e x h (λ reads. (Err e, reads, sym none)) g no_memory
 
 -- the same of each text in which something is written
-module _ {E : Type 0} (IsFrom : List ℕ → Type 0) (Reads : List ℕ → Result Reading ParseError → Type 0) (answer : Result Reading ParseError → NumberMatch) where
+module _ (IsFrom : List ℕ → Type 0) (Reads : List ℕ → Result Reading ParseError → Type 0) (answer : Result Reading ParseError → NumberMatch) where
   abbrev pub AreMatchesOf : NumberMatch → Type 0
   AreMatchesOf k = (t : List ℕ) → IsFrom t → IsMatchOf (Reads t) answer k
 
-  pub all_matched : (m : Reading) (x : Result NumberMatch E) → IsMemory (Ok m) ⊎ ((t : List ℕ) → IsFrom t → Reads t (Ok m)) →
+  pub all_matched : {E : Type 0} (m : Reading) (x : Result NumberMatch E) → IsMemory (Ok m) ⊎ ((t : List ℕ) → IsFrom t → Reads t (Ok m)) →
       IfOk x (λ k. k ≡ answer (Ok m)) → IfOk x AreMatchesOf
   all_matched m x (inl e) f = cc
   all_matched m x (inr h) f = ok_again x _ _ (λ k e t is. (Ok m, h t is, e)) f
 
-  pub all_unmatched : (e : ParseError) (x : Result NumberMatch E) → answer (Err e) ≡ NotANumber →
+  pub all_unmatched : {E : Type 0} (e : ParseError) (x : Result NumberMatch E) → answer (Err e) ≡ NotANumber →
       IsMemory (Err e) ⊎ ((t : List ℕ) → IsFrom t → Reads t (Err e)) → IfOk x (λ k. k ≡ NotANumber) → OnOk x (¬ (e ≡ Memory)) → IfOk x AreMatchesOf
   all_unmatched e x none h g no_memory =
       refused_as AreMatchesOf (λ r. (t : List ℕ) → IsFrom t → Reads t r) e x h (λ reads t is. (Err e, reads t is, sym none)) g no_memory

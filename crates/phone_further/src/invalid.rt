@@ -24,7 +24,7 @@ pub fn invalid_example(database: &Plans, region: Id) -> Result<Option<PhoneNumbe
     ensures { IfOk result (IsInvalidExample database.now region) }
 {
     match fixed_line_example(database, region) {
-        Some(text) => first_invalid(database, region, text),
+        Some(text) => first_invalid(database, hinted(database, Some(region)), text),
         None => Ok(None),
     }
 }
@@ -39,16 +39,17 @@ fn fixed_line_example(database: &Plans, region: Id) -> Option<&str>
     }
 }
 
-/// The first number that isn't valid, of a text's digits without their last ones. Refused only for
-/// memory.
+/// The first number that isn't valid, of a text's digits without their last ones, under a hint's
+/// territory. Refused only for memory.
 fn first_invalid(
     database: &Plans,
-    region: Id,
+    territory: Option<&Territory>,
     text: &str,
 ) -> Result<Option<PhoneNumber>, AllocError>
-    ensures { IfOk result (IsFirstInvalid database.now region (chars text.now)) }
+    ensures { IfOk result (λ found. (region : Id) → option_copied territory.entry ≡
+        hinted database.now (Some region) → IsFirstInvalid database.now region (chars text.now)
+        found) }
 {
-    let territory = hinted(database, Some(region));
     let mut rest = text;
     while let Some((front, _)) = split_last(rest) {
         if is_short(front) {

@@ -1,14 +1,15 @@
 use Rattle.std.proofs.Common.{◌≡◌, None, Ok, Err, chars, arith}
 use Rattle.phone_values.specs.declared.error.ParseError.TheVariants.{InvalidCountryCode}
+use Rattle.std.proofs.lemmas.Bool.{not-true}
 use Rattle.std.specs.Option.{option_copied}
 use Rattle.phone_further.proofs.TextReads.{first_refused_so, first_so, uncoded_so, unsigned_first_so, written_reads}
 use Rattle.phone_further.proofs.text_matches.match_first.Goals as goal
 
-pub returns-then-not : goal.returns-then-not
-returns-then-not g c is =
+pub returns-then-not-first : goal.returns-then-not-first
+returns-then-not-first g c is =
     let like = g.L.Likeness.like c.args.likeness.now in
     let guessed = g.L.Likeness.guessed c.args.likeness.now in
-    unsigned_first_so like guessed c.args.database.now (chars c.args.a.now) (chars c.args.b.now) c.args.first c.match_uncoded.result is c.if-not.true
+    unsigned_first_so like guessed c.args.database.now (chars c.args.a.now) (chars c.args.b.now) c.args.first c.match_uncoded.result is (not-true c.args.first.has_plus c.if-not-first.true)
     c.match_uncoded.ensures
 
 pub returns-in-Ok : goal.returns-in-Ok

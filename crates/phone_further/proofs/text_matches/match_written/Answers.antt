@@ -1,14 +1,15 @@
 use Rattle.std.proofs.Common.{◌≡◌, None, Ok, Err, chars, arith}
 use Rattle.phone_values.specs.declared.error.ParseError.TheVariants.{InvalidCountryCode}
+use Rattle.std.proofs.lemmas.Bool.{not-true}
 use Rattle.std.specs.Option.{option_copied}
 use Rattle.phone_further.proofs.TextReads.{beside_so, read_so, refused_so, unsigned_so, written_reads}
 use Rattle.phone_further.proofs.text_matches.match_written.Goals as goal
 
-pub returns-then-not : goal.returns-then-not
-returns-then-not g c is =
+pub returns-then-not-written : goal.returns-then-not-written
+returns-then-not-written g c is =
     let like = g.L.Likeness.like c.args.likeness.now in
     let guessed = g.L.Likeness.guessed c.args.likeness.now in
-    unsigned_so like guessed c.args.database.now c.args.number.now (chars c.args.text.now) c.args.written c.match_beside.result is c.if-not.true c.match_beside.ensures
+    unsigned_so like guessed c.args.database.now c.args.number.now (chars c.args.text.now) c.args.written c.match_beside.result is (not-true c.args.written.has_plus c.if-not-written.true) c.match_beside.ensures
 
 pub returns-in-Ok : goal.returns-in-Ok
 returns-in-Ok g c is =
