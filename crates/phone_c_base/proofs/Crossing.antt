@@ -51,10 +51,10 @@ use Rattle.phone_pattern.specs.contracts.leading.Leading as Leading
 use Rattle.phone_pattern.specs.contracts.leading.Leading.TheInside as Leading-in
 use Rattle.phone_pattern.specs.contracts.rules.FirstGroup as FirstGroup
 use Rattle.phone_pattern.specs.contracts.rules.FirstGroup.TheInside as FirstGroup-in
+use Rattle.phone_territory.proofs.by_kind.ByKind.TheSendSync as by_kind
+use Rattle.phone_territory.specs.contracts.by_kind.ByKind as ByKind
 use Rattle.phone_territory.specs.contracts.descriptor.Descriptor as Descriptor
 use Rattle.phone_territory.specs.contracts.descriptor.Descriptor.TheInside as Descriptor-in
-use Rattle.phone_territory.specs.contracts.descriptors.Descriptors as Descriptors
-use Rattle.phone_territory.specs.contracts.descriptors.Descriptors.TheInside as Descriptors-in
 use Rattle.phone_territory.specs.contracts.format.Format as Format
 use Rattle.phone_territory.specs.contracts.format.Format.TheInside as Format-in
 use Rattle.phone_territory.specs.contracts.territory.Territory as Territory
@@ -388,63 +388,8 @@ Descriptor-inside-send = recorded_send (Descriptor-in.the_field).row _ _ (Descri
 Descriptor-send : IsSend Descriptor.the_row
 Descriptor-send = view_send _ _ _ _ _ Descriptor-inside-send
 
-OneDescriptor-send : IsSend (Option.the_field Descriptor.the_row).row
-OneDescriptor-send = option.the_field_send _ Descriptor-send
-
-Descriptors-inside-send : IsSend Descriptors-in.the_row
-Descriptors-inside-send = recorded_send (Descriptors-in.the_field).row _ _ (Descriptors-in.the_type).to_one
-    (struct_send (S.shape Descriptors-in.the_type) (
-      Descriptor-send,
-      (
-        OneDescriptor-send,
-        (
-          OneDescriptor-send,
-          (
-            OneDescriptor-send,
-            (
-              OneDescriptor-send,
-              (
-                OneDescriptor-send,
-                (
-                  OneDescriptor-send,
-                  (
-                    OneDescriptor-send,
-                    (
-                      OneDescriptor-send,
-                      (
-                        OneDescriptor-send,
-                        (
-                          OneDescriptor-send,
-                          (
-                            OneDescriptor-send,
-                            (
-                              OneDescriptor-send,
-                              (
-                                OneDescriptor-send,
-                                (
-                                  OneDescriptor-send,
-                                  (
-                                    OneDescriptor-send,
-                                    tt,
-                                  ),
-                                ),
-                              ),
-                            ),
-                          ),
-                        ),
-                      ),
-                    ),
-                  ),
-                ),
-              ),
-            ),
-          ),
-        ),
-      ),
-    ))
-
-Descriptors-send : IsSend Descriptors.the_row
-Descriptors-send = view_send _ _ _ _ _ Descriptors-inside-send
+Descriptors-send : IsSend (ByKind.the_row Descriptor.the_row)
+Descriptors-send = by_kind.the_send _ Descriptor-send
 
 Format-inside-send : IsSend Format-in.the_row
 Format-inside-send = recorded_send (Format-in.the_field).row _ _ (Format-in.the_type).to_one
@@ -562,63 +507,8 @@ Descriptor-inside-sync = recorded_sync (Descriptor-in.the_field).row _ _ (Descri
 Descriptor-sync : IsSync Descriptor.the_row
 Descriptor-sync = view_sync _ _ _ _ _ Descriptor-inside-sync
 
-OneDescriptor-sync : IsSync (Option.the_field Descriptor.the_row).row
-OneDescriptor-sync = option.the_field_sync _ Descriptor-sync
-
-Descriptors-inside-sync : IsSync Descriptors-in.the_row
-Descriptors-inside-sync = recorded_sync (Descriptors-in.the_field).row _ _ (Descriptors-in.the_type).to_one
-    (struct_sync (S.shape Descriptors-in.the_type) (
-      Descriptor-sync,
-      (
-        OneDescriptor-sync,
-        (
-          OneDescriptor-sync,
-          (
-            OneDescriptor-sync,
-            (
-              OneDescriptor-sync,
-              (
-                OneDescriptor-sync,
-                (
-                  OneDescriptor-sync,
-                  (
-                    OneDescriptor-sync,
-                    (
-                      OneDescriptor-sync,
-                      (
-                        OneDescriptor-sync,
-                        (
-                          OneDescriptor-sync,
-                          (
-                            OneDescriptor-sync,
-                            (
-                              OneDescriptor-sync,
-                              (
-                                OneDescriptor-sync,
-                                (
-                                  OneDescriptor-sync,
-                                  (
-                                    OneDescriptor-sync,
-                                    tt,
-                                  ),
-                                ),
-                              ),
-                            ),
-                          ),
-                        ),
-                      ),
-                    ),
-                  ),
-                ),
-              ),
-            ),
-          ),
-        ),
-      ),
-    ))
-
-Descriptors-sync : IsSync Descriptors.the_row
-Descriptors-sync = view_sync _ _ _ _ _ Descriptors-inside-sync
+Descriptors-sync : IsSync (ByKind.the_row Descriptor.the_row)
+Descriptors-sync = by_kind.the_sync _ Descriptor-sync
 
 Format-inside-sync : IsSync Format-in.the_row
 Format-inside-sync = recorded_sync (Format-in.the_field).row _ _ (Format-in.the_type).to_one

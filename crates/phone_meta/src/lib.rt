@@ -4,7 +4,6 @@
 
 mod database;
 mod descriptor;
-mod descriptors;
 mod format;
 mod index;
 mod iter;
@@ -14,8 +13,7 @@ mod patterns;
 mod tree;
 
 pub use database::Database;
-pub use descriptor::Descriptor;
-pub use descriptors::Descriptors;
+pub use descriptor::{Descriptor, Descriptors};
 pub use format::Format;
 pub use iter::Iter;
 pub use metadata::Metadata;

@@ -6,7 +6,7 @@ ghost use Rattle.phone_territory.specs.First.{IsLentPattern};
 ghost use Rattle.phone_territory.specs.Kinds.{kinds_of};
 ghost use Rattle.phone_territory.specs.Refusals.{AreRead, patterns_in};
 
-use crate::descriptors::Descriptors;
+use crate::descriptor::{self, Descriptors};
 use crate::format::Format;
 use crate::patterns::{self, Patterns};
 use phone_base::results::zip;
@@ -67,7 +67,7 @@ fn compile_parts(
     ensures compiled { IfOk result (λ all. IsOfRecord given all.0 all.1) }
     ensures read { AreRead (patterns_in given) result }
 {
-    let descriptors = Descriptors::compile(
+    let descriptors = descriptor::compile(
         pool,
         (
             (

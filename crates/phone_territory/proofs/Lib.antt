@@ -1,3 +1,4 @@
 pub mod Complete
+pub mod EachKind
 pub mod Refused
 pub mod Suited

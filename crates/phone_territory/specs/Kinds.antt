@@ -1,5 +1,5 @@
 -- The descriptors of a territory, by kind: after the original's `metadata/metadata`.
-use Rattle.std.specs.Prelude.{◌≡◌, None, Option}
+use Rattle.std.specs.Prelude.{◌≡◌, None, Option, option_map}
 use Rattle.phone_values.specs.declared.kind.«Type».{«Type»}
 use Rattle.phone_values.specs.declared.kind.«Type».TheVariants as kind
 use Rattle.phone_records.specs.Kinds.{Four}
@@ -7,24 +7,28 @@ use Rattle.phone_records.specs.Missing.{missing_in_descriptor}
 use Rattle.phone_records.specs.declared.loader.Descriptor.{Descriptor}
 use Rattle.phone_records.specs.declared.loader.Metadata.{Metadata}
 
--- one descriptor for numbers of any kind and one for each kind, where it is given
-pub record Kinds : Type 0 where
-  pub general : Option Descriptor
-  pub fixed_line : Option Descriptor
-  pub mobile : Option Descriptor
-  pub toll_free : Option Descriptor
-  pub premium_rate : Option Descriptor
-  pub shared_cost : Option Descriptor
-  pub personal_number : Option Descriptor
-  pub voip : Option Descriptor
-  pub pager : Option Descriptor
-  pub uan : Option Descriptor
-  pub emergency : Option Descriptor
-  pub voicemail : Option Descriptor
-  pub short_code : Option Descriptor
-  pub standard_rate : Option Descriptor
-  pub carrier : Option Descriptor
-  pub no_international : Option Descriptor
+-- what there is of numbers of any kind, and of each kind, where it is given
+pub record KindsOf (D : Type 0) : Type 0 where
+  pub general : Option D
+  pub fixed_line : Option D
+  pub mobile : Option D
+  pub toll_free : Option D
+  pub premium_rate : Option D
+  pub shared_cost : Option D
+  pub personal_number : Option D
+  pub voip : Option D
+  pub pager : Option D
+  pub uan : Option D
+  pub emergency : Option D
+  pub voicemail : Option D
+  pub short_code : Option D
+  pub standard_rate : Option D
+  pub carrier : Option D
+  pub no_international : Option D
+
+-- the descriptors of a territory
+abbrev pub Kinds : Type 0
+Kinds = KindsOf Descriptor
 
 -- the sixteen descriptors of a territory's record
 abbrev pub kinds_of : Metadata → Kinds
@@ -47,8 +51,12 @@ kinds_of m = record {
   no_international = m.no_international;
 }
 
--- the same of descriptors four at a time, in their order
-abbrev pub kinds_in : Four × Four × Four × Four → Kinds
+-- four of several kinds, each where it is given
+abbrev pub FourOf : Type 0 → Type 0
+FourOf D = Option D × Option D × Option D × Option D
+
+-- the same of what is given four at a time, in their order
+abbrev pub kinds_in : {D : Type 0} → FourOf D × FourOf D × FourOf D × FourOf D → KindsOf D
 kinds_in k = record {
   general = k.0.0;
   fixed_line = k.0.1;
@@ -68,6 +76,30 @@ kinds_in k = record {
   no_international = k.3.3;
 }
 
+-- what a function gives of each of four, and of each kind
+abbrev pub map_four : {D E : Type 0} → (D → E) → FourOf D → FourOf E
+map_four f g = (option_map f g.0, option_map f g.1, option_map f g.2, option_map f g.3)
+
+abbrev pub map_kinds : {D E : Type 0} → (D → E) → KindsOf D → KindsOf E
+map_kinds f k = record {
+  general = option_map f k.general;
+  fixed_line = option_map f k.fixed_line;
+  mobile = option_map f k.mobile;
+  toll_free = option_map f k.toll_free;
+  premium_rate = option_map f k.premium_rate;
+  shared_cost = option_map f k.shared_cost;
+  personal_number = option_map f k.personal_number;
+  voip = option_map f k.voip;
+  pager = option_map f k.pager;
+  uan = option_map f k.uan;
+  emergency = option_map f k.emergency;
+  voicemail = option_map f k.voicemail;
+  short_code = option_map f k.short_code;
+  standard_rate = option_map f k.standard_rate;
+  carrier = option_map f k.carrier;
+  no_international = option_map f k.no_international;
+}
+
 -- none of four descriptors lacks its pattern
 abbrev pub AreWhole : Four → Type 0
 AreWhole d =
@@ -76,7 +108,7 @@ AreWhole d =
 
 -- the descriptor of a kind: the general one where the kind is unknown, fixed line's where it may
 -- also be mobile
-abbrev pub descriptor_for : «Type» → Kinds → Option Descriptor
+abbrev pub descriptor_for : {D : Type 0} → «Type» → KindsOf D → Option D
 descriptor_for kind.Unknown k = k.general
 descriptor_for kind.FixedLineOrMobile k = k.fixed_line
 descriptor_for kind.FixedLine k = k.fixed_line

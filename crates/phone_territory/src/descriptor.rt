@@ -1,12 +1,15 @@
 //! What the numbers of one kind look like, with its pattern read.
-ghost use Rattle.std.specs.Prelude.{◌≡◌, ◌==◌, false, length, None, Some, Ok, IfOk, IfErr};
+ghost use Rattle.std.specs.Prelude.{◌≡◌, ◌==◌, [], false, length, None, Some, Ok, IfOk, IfErr};
 ghost use Rattle.std.specs.List.{AllByRecursion, list_any};
-ghost use Rattle.std.specs.Option.{option_copied};
+ghost use Rattle.std.specs.Option.{IsSome, option_copied};
 ghost use Rattle.phone_territory.specs.First.{IsPattern};
+ghost use Rattle.phone_territory.specs.Kinds.{AreWhole, kinds_in};
 ghost use Rattle.phone_records.specs.Missing.{missing_in_descriptor};
-ghost use Rattle.phone_territory.specs.Refusals.{IsPatternRefusal, patterns_in_descriptor};
+ghost use Rattle.phone_territory.specs.Refusals.{AreRead, IsPatternRefusal};
+ghost use Rattle.phone_territory.specs.Refusals.{patterns_in_descriptor, with_four};
 ghost use Rattle.phone_territory.specs.Records.{allows_length, matches, pattern_of};
 
+use crate::by_kind::{ByKind, Given, OfRecord};
 use crate::lent;
 use crate::loader::{self, Text};
 use phone_base::results::zip;
@@ -136,4 +139,31 @@ fn lists(lengths: &[u16], length: usize) -> bool
     ensures { result ≡ list_any (λ n. n == length) lengths.now }
 {
     lengths.iter().any(|&n| usize::from(n) == length)
+}
+
+impl OfRecord for Descriptor {
+    ghost told = { λ d. d };
+
+    fn compile(pool: &Pool, given: loader::Descriptor) -> Result<Descriptor, LoadMetadata> {
+        Descriptor::compile(pool, given)
+    }
+}
+
+/// What the numbers of each kind look like in a territory. Contracts see the records.
+pub type Descriptors = ByKind<Descriptor>;
+
+/// Compiles the descriptors of a territory's record: the general one is given, and none lacks its
+/// pattern.
+pub(crate) fn compile(
+    pool: &Pool,
+    given: (Given, Given, Given, Given),
+) -> Result<Descriptors, LoadMetadata>
+    requires general { IsSome given.0.0 }
+    requires whole { AreWhole given.0 × AreWhole given.1 × AreWhole given.2 × AreWhole given.3 }
+    ensures compiled { IfOk result (λ d. d ≡ kinds_in given) }
+    ensures read { AreRead
+        (with_four given.0 (with_four given.1 (with_four given.2 (with_four given.3 []))))
+        result }
+{
+    Descriptors::compile(pool, given)
 }

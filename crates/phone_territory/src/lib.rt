@@ -2,8 +2,8 @@
 #![tactic(auto)]
 
 mod alike;
+mod by_kind;
 mod descriptor;
-mod descriptors;
 mod each;
 mod format;
 mod lent;
@@ -14,8 +14,8 @@ pub mod results;
 mod territory;
 mod territory_id;
 
-pub use descriptor::Descriptor;
-pub use descriptors::Descriptors;
+pub use by_kind::{ByKind, Four, Given, OfRecord};
+pub use descriptor::{Descriptor, Descriptors};
 pub use each::{Compile, compile_each};
 pub use format::Format;
 pub use phone_pattern::{Captured, FirstGroup, Pattern, Subject};

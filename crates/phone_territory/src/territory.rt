@@ -10,7 +10,7 @@ ghost use Rattle.phone_territory.specs.Kinds.{kinds_of};
 ghost use Rattle.phone_territory.specs.Prefixes.{is_benign_prefix};
 ghost use Rattle.phone_records.specs.Missing.{first_missing};
 
-use crate::descriptors::Descriptors;
+use crate::descriptor::{self, Descriptors};
 use crate::each::{self, Compile};
 use crate::format::Format;
 use crate::loader::{self, Text};
@@ -115,7 +115,7 @@ impl Compile for Territory {
             mobile_number_portable: given.mobile_number_portable,
             defaults: given.defaults,
         };
-        let descriptors = Descriptors::compile(
+        let descriptors = descriptor::compile(
             pool,
             (
                 (

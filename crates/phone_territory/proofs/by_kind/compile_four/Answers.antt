@@ -1,6 +1,6 @@
 use Rattle.phone_territory.specs.Refusals.{patterns_in_descriptor, with_four}
 use Rattle.phone_territory.proofs.Refused.{still-read}
-use Rattle.phone_territory.proofs.descriptors.compile_four.Goals as goal
+use Rattle.phone_territory.proofs.by_kind.compile_four.Goals as goal
 
 pub returns-clause-read : goal.returns-clause-read
 returns-clause-read g c ps p =
