@@ -76,10 +76,11 @@ kinds_in k = record {
   no_international = k.3.3;
 }
 
--- what a function gives of each of four, and of each kind
+-- what a function gives of each of four
 abbrev pub map_four : {D E : Type 0} → (D → E) → FourOf D → FourOf E
 map_four f g = (option_map f g.0, option_map f g.1, option_map f g.2, option_map f g.3)
 
+-- what it gives of each kind
 abbrev pub map_kinds : {D E : Type 0} → (D → E) → KindsOf D → KindsOf E
 map_kinds f k = record {
   general = option_map f k.general;
