@@ -8,9 +8,10 @@ ghost use Rattle.phone_further.specs.Invalid.{fixed_line_example, if_invalid, is
 
 use crate::examples::example_in;
 use phone_chars::cuts::split_last;
-use phone_library::{hinted, is_valid, parse_written};
+use phone_library::{is_valid, parse_written};
 use phone_library_text::read_written;
 use phone_plans::{Plans, Territory};
+use phone_read::hint_territory;
 use phone_values::country::Id;
 use phone_values::{ParseError, Type};
 use phonenumber::PhoneNumber;
@@ -24,7 +25,7 @@ pub fn invalid_example(database: &Plans, region: Id) -> Result<Option<PhoneNumbe
     ensures { IfOk result (IsInvalidExample database.now region) }
 {
     match fixed_line_example(database, region) {
-        Some(text) => first_invalid(database, hinted(database, Some(region)), text),
+        Some(text) => first_invalid(database, hint_territory(database, Some(region)), text),
         None => Ok(None),
     }
 }

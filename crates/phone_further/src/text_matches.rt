@@ -9,10 +9,11 @@ ghost use Rattle.phone_further.specs.TextMatches.{AreBareMatch, AreTextsMatch, I
 ghost use Rattle.phone_further.specs.TextMatches.{IsTextMatch, bare_number, match_read};
 
 use crate::likeness::Likeness;
-use phone_library::{hinted, national_number, parse, parse_written};
+use phone_library::{national_number, parse, parse_written};
 use phone_library_text::{WrittenNumber, read_written};
 use phone_plans::Plans;
 use phone_questions::NumberMatch;
+use phone_read::hint_territory;
 use phone_values::ParseError;
 use phone_values::country::{Code, Source};
 use phonenumber::PhoneNumber;
@@ -52,7 +53,7 @@ fn match_written<L: Likeness>(
     if !written.has_plus {
         return match_beside(likeness, database, number, written);
     }
-    match parse_written(database, hinted(database, None), written) {
+    match parse_written(database, hint_territory(database, None), written) {
         Ok(read) => likeness.match_numbers(database.allocator(), number, &read),
         Err(error) => {
             if error == ParseError::InvalidCountryCode {
@@ -115,7 +116,7 @@ fn match_first<L: Likeness>(
     if !first.has_plus {
         return match_uncoded(likeness, database, first, b);
     }
-    match parse_written(database, hinted(database, None), first) {
+    match parse_written(database, hint_territory(database, None), first) {
         Ok(number) => match_text(likeness, database, &number, b),
         Err(error) => {
             if error == ParseError::InvalidCountryCode {
@@ -241,7 +242,7 @@ fn read_beside(
         IsBeside database.now code t result) }
 {
     match database.first_by_code(&code) {
-        Some(main) => parse_written(database, hinted(database, main.region()), written),
+        Some(main) => parse_written(database, hint_territory(database, main.region()), written),
         None => bare_number(written),
     }
 }

@@ -14,7 +14,7 @@ mod stripping;
 
 pub use kinds::kind_in;
 pub use lengths::length_in;
-pub use parser::{hinted, parse, parse_written};
+pub use parser::{parse, parse_written};
 pub use printing::{printed, printed_texts, push_printed_texts, without_carrier};
 pub use queries::{NumberFacts, facts, is_valid, number_type, region};
 pub use reading::national_number;

@@ -2,11 +2,11 @@
 ghost use Rattle.std.specs.Prelude.{◌≡◌, ◌⊎◌, Err, chars};
 ghost use Rattle.std.specs.Option.{option_copied};
 ghost use Rattle.phone_library.specs.Readings.{ReadsByLibrary, reading_under};
-ghost use Rattle.phone_read.specs.Hints.{hinted};
 
 use crate::reading::reading_under;
 use phone_library_text::{WrittenNumber, read_written};
 use phone_plans::{Plans, Territory};
+use phone_read::hint_territory;
 use phone_values::country::Id;
 use phone_values::{ParseError, Reading};
 use phonenumber::PhoneNumber;
@@ -28,7 +28,7 @@ pub fn parse(database: &Plans, hint: Option<Id>, text: &str) -> Result<PhoneNumb
         ReadsByLibrary database.now hint (chars text.now) result }
 {
     let number = read_written(database.allocator(), text)?;
-    parse_written(database, hinted(database, hint), number)
+    parse_written(database, hint_territory(database, hint), number)
 }
 
 /// The number that is written so, under the territory of a hint, as [`parse`] reads it from the
@@ -49,14 +49,4 @@ pub fn parse_written(
         carrier,
     } = reading_under(database, territory, number)?;
     Ok(PhoneNumber::from_parts(code, national, extension, carrier))
-}
-
-/// The territory of a hint: the last record with its id.
-pub fn hinted(database: &Plans, hint: Option<Id>) -> Option<&Territory>
-    ensures { option_copied result ≡ hinted database.now hint }
-{
-    match hint {
-        Some(id) => database.by_id(id.as_str()),
-        None => None,
-    }
 }

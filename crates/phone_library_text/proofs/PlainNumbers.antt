@@ -1,5 +1,6 @@
 -- Numbers of ASCII digits alone, found by their bytes.
-use Rattle.std.proofs.Common.{◌≡◌, ℕ, zero, suc, ◌≤◌, Bool, true, false, List, [], ◌∷◌, ◌++◌, length, Option, None, Some, IfSome, Ok, refl, ap, sym, subst, ◌∙◌, arith}
+use Rattle.std.proofs.Common.{◌≡◌, ℕ, zero, suc, ◌≤◌, Bool, true, false, List, [], ◌∷◌, ◌++◌, length, Option, None, Some, IfSome, Ok, refl, ap, sym, subst, ◌∙◌, arith, true≢false}
+use Rattle.std.proofs.lemmas.Bool.{and_parts}
 use Rattle.std.proofs.lemmas.Fmt.{IsAscii-from_digits}
 use Rattle.std.proofs.lemmas.Str.{chars-IsAscii}
 use Rattle.std.specs.List.{list_all}
@@ -45,3 +46,23 @@ module _ {T : Type 0} (plus : T → Bool) (lent : T → List ℕ) (found : Optio
   pub if_unsigned : (t : List ℕ) → IsFound false t → IfSome found (λ p. IsPlain (chars t) (plus p) (lent p))
   if_unsigned t h =
       some_again found _ _ (λ p (sign, same, digits, some). subst (λ b. IsPlain (chars t) b (lent p)) (sym sign) (unsigned t (lent p) same digits some)) h
+
+-- the bytes of at least three digits
+abbrev pub AreDigits : List ℕ → Type 0
+AreDigits d = (list_all is_digit d ≡ true) × (3 ≤ length d)
+
+no_plus : (rest d : List ℕ) → list_all is_digit d ≡ true → ¬ (43 ∷ rest ≡ d)
+no_plus rest [] digits e = cc
+no_plus rest (c ∷ d) digits e =
+    let same : 43 ≡ c = cc in
+    let digit = (and_parts (is_digit c) (list_all is_digit d) digits).0 in
+    true≢false (sym (ap is_digit same ∙ digit))
+
+pub other_signed : (t rest : List ℕ) → t ≡ 43 ∷ rest → ¬ (AreDigits rest) → (d : List ℕ) → list_all is_digit d ≡ true → 3 ≤ length d →
+    ¬ (t ≡ d) × ¬ (t ≡ 43 ∷ d)
+other_signed t rest whole none d digits some =
+    (λ e. no_plus rest d digits (sym whole ∙ e), λ e. let same : rest ≡ d = (let f = sym whole ∙ e in cc) in none (subst AreDigits (sym same) (digits, some)))
+
+pub other_unsigned : (t : List ℕ) → ((rest : List ℕ) → ¬ (t ≡ 43 ∷ rest)) → ¬ (AreDigits t) → (d : List ℕ) → list_all is_digit d ≡ true → 3 ≤ length d →
+    ¬ (t ≡ d) × ¬ (t ≡ 43 ∷ d)
+other_unsigned t no_sign none d digits some = (λ e. none (subst AreDigits (sym e) (digits, some)), λ e. no_sign d e)

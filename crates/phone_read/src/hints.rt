@@ -9,8 +9,8 @@ use phone_values::Type;
 use phone_values::country::Id;
 use std::alloc::AllocError;
 
-/// The territory of the hint: the last record with its id.
-pub(crate) fn hint_territory(db: &Plans, hint: Option<Id>) -> Option<&Territory>
+/// The territory of a hint: the last record with its id; none where there is no such.
+pub fn hint_territory(db: &Plans, hint: Option<Id>) -> Option<&Territory>
     ensures { option_copied result ≡ hinted db.now hint }
 {
     match hint {

@@ -18,6 +18,7 @@ pub mod trims;
 pub mod validator;
 mod worked;
 
+pub use hints::hint_territory;
 pub use phone_parts::{Number, natural, rfc3966};
 pub use phone_values::Reading;
 pub use reading::{nsn, read};

@@ -6,7 +6,6 @@ ghost use Rattle.std.specs.Option.{option_copied, option_map_or};
 ghost use Rattle.phone_values.specs.declared.mode.Mode.TheVariants as mode;
 ghost use Rattle.phone_values.specs.declared.country.Id as country;
 ghost use Rattle.phone_parts.specs.Texts.{is_front};
-ghost use Rattle.phone_read.specs.Hints.{hinted};
 ghost use Rattle.phone_records.specs.declared.loader.Metadata as loader;
 ghost use Rattle.phone_typed.specs.Keys.{HasNoPlus, keys_in};
 ghost use Rattle.phone_typed.specs.Typed.{layout_territory, text_abroad, text_at, text_of_code};
@@ -18,6 +17,7 @@ use crate::stripping::national_digits;
 use phone_base::results::in_place_of;
 use phone_plans::{Plans, Territory};
 use phone_print::written::ROOM;
+use phone_read::hint_territory;
 use phone_read::trims::behind_number;
 use phone_values::Mode;
 use phone_values::country::Id;
@@ -103,16 +103,6 @@ pub(crate) fn layout_territory(db: &Plans, hint: Option<Id>) -> Option<&Territor
 {
     let m = hint_territory(db, hint)?;
     db.first_by_code(&m.country_code())
-}
-
-/// The territory of the hint: the last record with its id.
-fn hint_territory(db: &Plans, hint: Option<Id>) -> Option<&Territory>
-    ensures { option_copied result ≡ hinted db.now hint }
-{
-    match hint {
-        Some(id) => db.by_id(id.as_str()),
-        None => None,
-    }
 }
 
 /// What is shown of digits that are typed in a territory. Refused only for memory.

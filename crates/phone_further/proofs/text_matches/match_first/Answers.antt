@@ -19,7 +19,7 @@ returns-in-Ok g c is =
     let db = c.args.database.now in
     let t = chars c.args.a.now in
     first_so like guessed db t (chars c.args.b.now) c.in-Ok.number c.match_text.result
-    (written_reads db t c.args.first is None (option_copied c.hinted.result) (Ok c.in-Ok.number) c.hinted.ensures c.in-Ok.ensures) c.match_text.ensures
+    (written_reads db t c.args.first is None (option_copied c.hint_territory.result) (Ok c.in-Ok.number) c.hint_territory.ensures c.in-Ok.ensures) c.match_text.ensures
 
 pub returns-then-eq : goal.returns-then-eq
 returns-then-eq g c is =
@@ -30,7 +30,7 @@ returns-then-eq g c is =
     let error = c.in-Err.error in
     let why : error ≡ InvalidCountryCode = (let x = c.eq.ensures in let y = c.if-eq.true in grind arith) in
     uncoded_so like guessed db t (chars c.args.b.now) error c.match_unlisted.result why
-    (written_reads db t c.args.first is None (option_copied c.hinted.result) (Err error) c.hinted.ensures c.in-Err.ensures) c.match_unlisted.ensures
+    (written_reads db t c.args.first is None (option_copied c.hint_territory.result) (Err error) c.hint_territory.ensures c.in-Err.ensures) c.match_unlisted.ensures
 
 pub returns-else-eq : goal.returns-else-eq
 returns-else-eq g c is =
@@ -41,4 +41,4 @@ returns-else-eq g c is =
     let error = c.in-Err.error in
     let other : ¬ (error ≡ InvalidCountryCode) = (λ e. let x = c.eq.ensures in let y = c.if-eq.false in grind arith) in
     first_refused_so like guessed db t (chars c.args.b.now) error c.not_a_number.result other
-    (written_reads db t c.args.first is None (option_copied c.hinted.result) (Err error) c.hinted.ensures c.in-Err.ensures) c.not_a_number.ensures.number c.not_a_number.ensures.memory
+    (written_reads db t c.args.first is None (option_copied c.hint_territory.result) (Err error) c.hint_territory.ensures c.in-Err.ensures) c.not_a_number.ensures.number c.not_a_number.ensures.memory

@@ -17,7 +17,7 @@ returns-in-Ok g c is =
     let guessed = g.L.Likeness.guessed c.args.likeness.now in
     let db = c.args.database.now in
     let t = chars c.args.text.now in
-    read_so like guessed db c.args.number.now t c.in-Ok.read c.match_numbers.result (written_reads db t c.args.written is None (option_copied c.hinted.result) (Ok c.in-Ok.read) c.hinted.ensures c.in-Ok.ensures)
+    read_so like guessed db c.args.number.now t c.in-Ok.read c.match_numbers.result (written_reads db t c.args.written is None (option_copied c.hint_territory.result) (Ok c.in-Ok.read) c.hint_territory.ensures c.in-Ok.ensures)
     c.match_numbers.ensures
 
 pub returns-then-eq : goal.returns-then-eq
@@ -28,7 +28,7 @@ returns-then-eq g c is =
     let t = chars c.args.text.now in
     let error = c.in-Err.error in
     let why : error ≡ InvalidCountryCode = (let x = c.eq.ensures in let y = c.if-eq.true in grind arith) in
-    beside_so like guessed db c.args.number.now t error c.match_again.result why (written_reads db t c.args.written is None (option_copied c.hinted.result) (Err error) c.hinted.ensures c.in-Err.ensures)
+    beside_so like guessed db c.args.number.now t error c.match_again.result why (written_reads db t c.args.written is None (option_copied c.hint_territory.result) (Err error) c.hint_territory.ensures c.in-Err.ensures)
     c.match_again.ensures
 
 pub returns-else-eq : goal.returns-else-eq
@@ -39,5 +39,5 @@ returns-else-eq g c is =
     let t = chars c.args.text.now in
     let error = c.in-Err.error in
     let other : ¬ (error ≡ InvalidCountryCode) = (λ e. let x = c.eq.ensures in let y = c.if-eq.false in grind arith) in
-    refused_so like guessed db c.args.number.now t error c.not_a_number.result other (written_reads db t c.args.written is None (option_copied c.hinted.result) (Err error) c.hinted.ensures c.in-Err.ensures)
+    refused_so like guessed db c.args.number.now t error c.not_a_number.result other (written_reads db t c.args.written is None (option_copied c.hint_territory.result) (Err error) c.hint_territory.ensures c.in-Err.ensures)
     c.not_a_number.ensures.number c.not_a_number.ensures.memory

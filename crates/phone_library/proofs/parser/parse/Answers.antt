@@ -24,5 +24,5 @@ returns c =
     let number = c.in_ok-number.number in
     let written : IsWritten t (Ok number) = ⊎_elim (λ f. absurd (not_both _ _ f)) (λ w. w) c.in_ok-number.ensures in
     ⊎_elim (λ f. inl f)
-    (λ f. inr (subst (ReadsByLibrary db c.args.hint t) (sym (f ∙ ap (λ m. reading_under db m number) c.hinted.ensures)) (Readings.written number written)))
+    (λ f. inr (subst (ReadsByLibrary db c.args.hint t) (sym (f ∙ ap (λ m. reading_under db m number) c.hint_territory.ensures)) (Readings.written number written)))
     c.parse_written.ensures
